@@ -1,0 +1,37 @@
+-- A row, and a table of rows. Definitions only.
+use Prim.Native.Nat.{ℕ, _+_, _*_, _/_}
+use mathlib.Core.List.{List, [], _∷_}
+use lib.ListN.{length, getD}
+use Rattle.rows.specs.declared.row.Row.{Row}
+
+-- "A row is six 32-bit unsigned numbers in a lent table: kind, end, w0, w1, w2, w3"
+abbrev pub wordsPerRow : ℕ
+wordsPerRow = 6
+
+-- the numbers of a row, in that order
+unfoldable pub wordsOf : Row → List ℕ
+wordsOf r = r .kind ∷ r .end ∷ r .w0 ∷ r .w1 ∷ r .w2 ∷ r .w3 ∷ []
+
+-- number i of a row of a table
+abbrev pub wordAt : List ℕ → ℕ → ℕ → ℕ
+wordAt table row i = getD table (wordsPerRow * row + i) 0
+
+-- "Rows stand in document order": row after row, from the front of the table on
+unfoldable pub rowAt : List ℕ → ℕ → Row
+rowAt table row =
+    record {
+      kind = wordAt table row 0;
+      end = wordAt table row 1;
+      w0 = wordAt table row 2;
+      w1 = wordAt table row 3;
+      w2 = wordAt table row 4;
+      w3 = wordAt table row 5;
+    }
+
+-- "A table lends as many rows as it has whole sixes"
+abbrev pub lent : List ℕ → ℕ
+lent table = length table / wordsPerRow
+
+-- "n is 1 to 16,777,215 and the table holds n rows; data are at most 16,777,215 bytes"
+abbrev pub limit : ℕ
+limit = 16777215

@@ -1,0 +1,146 @@
+-- A body of any size, read from its top byte down and written from its low byte up. Assumes nothing.
+use mathlib.Core.Path.{_≡_, _∙_, sym, ap, ap₂, refl}
+use mathlib.Core.Bool.{Bool, true, false, _&&_}
+use mathlib.Core.List.{List, [], _∷_}
+use Prim.Native.Nat.{ℕ, zero, suc, _+_, _-_, _*_, _/_, _%_, _^_, _≤_, _<_}
+use native.Mathlib.Nat.{mul-left-comm, mul-comm, mul-sub, mul-le-mul-right, mul-le-mul-left, pow-le-pow-right, zero-lt-suc}
+use native.Mathlib.Omega.{arith}
+use lib.ListN.{length, set, take, drop, getD, length-drop, drop-of-length-le}
+use lib.Seq.{sets, length-take-le, drop-cons, getD-take, getD-drop}
+use lib.Dec.{leb}
+use borrow.Author.Tests.{le-leb, lt-leb}
+use Rattle.wide.specs.declared.wide.Wide.{Wide}
+use Rattle.wide.specs.Number.{number, bytesOf}
+use Rattle.wide.specs.Words.{whole, valueOf, wideOf}
+use Rattle.wide.specs.Body.{extended, negative, bodyValue}
+use Rattle.wide.proofs.Numbers.{either, onto, Bytes, pow-step, pow-pos256, onto-number, onto-zero, bytes-all, bytes-take, bytes-drop}
+use Rattle.wide.proofs.Wides.{Words, wide-more}
+use Rattle.wide.proofs.Steps.{in-again, value-off}
+
+-- the number lies between what its top byte says
+top-low : (bs : List ℕ) (k : ℕ) → length bs ≡ suc k → getD bs k 0 * 256 ^ k ≤ number bs
+top-low [] k e = omega arith
+top-low (b ∷ []) zero e = omega arith
+top-low (b ∷ []) (suc k) e = omega arith
+top-low (b ∷ c ∷ bs) zero e = omega arith
+top-low (b ∷ c ∷ bs) (suc k) e =
+    let t : ℕ = getD (c ∷ bs) k 0 in
+    omega (arith, top-low (c ∷ bs) k (omega arith), mul-left-comm t 256 (256 ^ k), ap (λ (p : ℕ). t * p) (pow-step k))
+
+top-high : (bs : List ℕ) (k : ℕ) → Bytes bs → length bs ≡ suc k → number bs < getD bs k 0 * 256 ^ k + 256 ^ k
+top-high [] k h e = omega arith
+top-high (b ∷ []) zero h e = omega arith
+top-high (b ∷ []) (suc k) h e = omega arith
+top-high (b ∷ c ∷ bs) zero h e = omega arith
+top-high (b ∷ c ∷ bs) (suc k) h e =
+    let t : ℕ = getD (c ∷ bs) k 0 in
+    omega (arith, h .0, top-high (c ∷ bs) k (h .1) (omega arith), mul-left-comm t 256 (256 ^ k), ap (λ (p : ℕ). t * p) (pow-step k), pow-step k)
+
+-- the highest bit is that of the top byte
+pub top-bit : (bs : List ℕ) (k : ℕ) → Bytes bs → length bs ≡ suc k → leb (256 ^ length bs) (2 * number bs) ≡ leb 128 (getD bs k 0)
+top-bit bs k h e =
+    let t : ℕ = getD bs k 0 in
+    let p : ℕ = 256 ^ k in
+    let lo : t * p ≤ number bs = top-low bs k e in
+    let hi : number bs < t * p + p = top-high bs k h e in
+    let q : 256 ^ length bs ≡ 256 * p = ap (λ (n : ℕ). 256 ^ n) e ∙ pow-step k in
+    either 128 t
+    (λ l. le-leb (256 ^ length bs) (2 * number bs) (omega (arith, mul-le-mul-right p l)) ∙ sym (le-leb 128 t l))
+    (λ l. let l′ : t ≤ 127 = omega arith in
+    lt-leb (256 ^ length bs) (2 * number bs) (omega (arith, mul-le-mul-right p l′)) ∙ sym (lt-leb 128 t l))
+
+pub pow-whole : (k : ℕ) → k ≤ 16 → 256 ^ k ≤ whole
+unfolding whole
+pow-whole k h = pow-le-pow-right (zero-lt-suc 255) h
+
+-- ones above a body, or none, are what its extension has
+fill-true : (p n : ℕ) → 0 < p → p ≤ whole → n + (whole - 1) * p ≡ n + (whole - p) + whole * (p - 1)
+fill-true p n h k =
+    let a : p * (whole - 1) ≡ p * whole - p * 1 = mul-sub p whole 1 in
+    let b : whole * (p - 1) ≡ whole * p - whole * 1 = mul-sub whole p 1 in
+    omega (arith, mul-comm (whole - 1) p, mul-comm p whole, mul-le-mul-left whole h, mul-le-mul-left p k, mul-le-mul-right p (one-le-whole h k))
+  where
+    one-le-whole : 0 < p → p ≤ whole → 1 ≤ whole
+    one-le-whole x y = omega arith
+
+pub filled : (neg : Bool) (bs : List ℕ) → length bs ≤ 16 → wideOf (onto (extended neg 0 0) bs) ≡ wideOf (extended neg (length bs) (number bs))
+filled false bs h = ap wideOf (onto-zero bs)
+filled true bs h =
+    let p : ℕ = 256 ^ length bs in
+    let e : extended true 0 0 ≡ whole - 1 = omega arith in
+    ap (λ (f : ℕ). wideOf (onto f bs)) e
+    ∙ ap wideOf (onto-number (whole - 1) bs ∙ fill-true p (number bs) (pow-pos256 (length bs)) (pow-whole (length bs) h))
+    ∙ wide-more (number bs + (whole - p)) (p - 1)
+
+sign : (signed : Bool) (bs : List ℕ) (k : ℕ) → Bytes bs → length bs ≡ suc k → negative signed (length bs) (number bs) ≡ (signed && leb 128 (getD bs k 0))
+sign false bs k h e = refl
+sign true bs k h e = top-bit bs k h e
+
+-- ---- a body that lies in a slice
+
+module _ (s : List ℕ) (at size : ℕ) (low : 1 ≤ size) (high : size ≤ 16) (fits : at + size ≤ length s) where
+  body-length : length (take size (drop at s)) ≡ size
+  body-length = length-take-le size (drop at s) (simp length-drop (omega arith))
+
+  pub body-end : (f : ℕ) → onto f (drop size (take size (drop at s))) ≡ f
+  body-end f = ap (onto f) (drop-of-length-le (take size (drop at s)) {i = size} (omega (arith, body-length)))
+
+  body-at : (j : ℕ) → j < size → getD (take size (drop at s)) j 0 ≡ getD s (at + j) 0
+  body-at j h = getD-take size (drop at s) j 0 h ∙ getD-drop at s j 0
+
+  body-step : (f j : ℕ) → j < size
+      → onto f (drop j (take size (drop at s))) ≡ getD s (at + j) 0 + 256 * onto f (drop (suc j) (take size (drop at s)))
+  body-step f j h =
+      ap (onto f) (drop-cons (take size (drop at s)) j 0 (omega (arith, body-length)))
+      ∙ ap (λ (b : ℕ). b + 256 * onto f (drop (suc j) (take size (drop at s)))) (body-at j h)
+
+  -- a turn of the loop
+  pub turn : (f i : ℕ) (w r : Wide) → 0 < i → i ≤ size → getD s (at + (i - 1)) 0 < 256
+      → w ≡ wideOf (onto f (drop i (take size (drop at s))))
+      → r ≡ wideOf (getD s (at + (i - 1)) 0 + 256 * valueOf w)
+      → r ≡ wideOf (onto f (drop (i - 1) (take size (drop at s))))
+  turn f i w r p h b e g =
+      let j : ℕ = i - 1 in
+      let ij : i ≡ suc j = omega arith in
+      let x : ℕ = getD s (at + j) 0 in
+      g
+      ∙ ap (λ (v : Wide). wideOf (x + 256 * valueOf v)) (e ∙ ap (λ (k : ℕ). wideOf (onto f (drop k (take size (drop at s))))) ij)
+      ∙ in-again (onto f (drop (suc j) (take size (drop at s)))) x b
+      ∙ ap wideOf (sym (body-step f j (omega arith)))
+
+  pub body-read : (signed : Bool) → ((i : ℕ) → getD s i 0 < 256)
+      → wideOf (onto (extended (signed && leb 128 (getD s (at + (size - 1)) 0)) 0 0) (take size (drop at s))) ≡ wideOf (bodyValue signed (take size (drop at s)))
+  unfolding bodyValue
+  body-read signed h =
+      let bs : List ℕ = take size (drop at s) in
+      let e : length bs ≡ suc (size - 1) = omega (arith, body-length) in
+      let t : getD bs (size - 1) 0 ≡ getD s (at + (size - 1)) 0 = body-at (size - 1) (omega arith) in
+      ap (λ (b : ℕ). wideOf (onto (extended (signed && leb 128 b) 0 0) bs)) (sym t)
+      ∙ ap (λ (b : Bool). wideOf (onto (extended b 0 0) bs)) (sym (sign signed bs (size - 1) (bytes-take size (drop at s) (bytes-drop at s (bytes-all s h))) e))
+      ∙ filled (negative signed (length bs) (number bs)) bs (omega (arith, body-length))
+
+-- ---- a body that is written: what is left to write completes it
+
+pub write-start : (out : List ℕ) (at size n : ℕ) → sets out (at + 0) (bytesOf (size - 0) n) ≡ sets out at (bytesOf size n)
+write-start out at size n =
+    let p : at + 0 ≡ at = omega arith in
+    let q : size - 0 ≡ size = omega arith in
+    ap₂ (λ (a k : ℕ). sets out a (bytesOf k n)) p q
+
+pub write-turn : (out t : List ℕ) (at i size b : ℕ) (w r : Wide) → i < size → Words w → b ≡ valueOf w % 256 → r ≡ wideOf (valueOf w / 256)
+    → sets out (at + i) (bytesOf (size - i) (valueOf w)) ≡ t
+    → sets (set out (at + i) b) (at + (i + 1)) (bytesOf (size - (i + 1)) (valueOf r)) ≡ t
+write-turn out t at i size b w r l h eb er e =
+    let k : ℕ = size - (i + 1) in
+    let v : ℕ = valueOf w in
+    let p : at + (i + 1) ≡ suc (at + i) = omega arith in
+    let q : suc k ≡ size - i = omega arith in
+    ap₂ (λ (x y : ℕ). sets (set out (at + i) x) y (bytesOf k (valueOf r))) eb p
+    ∙ ap (λ (x : ℕ). sets (set out (at + i) (v % 256)) (suc (at + i)) (bytesOf k x)) (ap valueOf er ∙ value-off w h)
+    ∙ ap (λ (x : ℕ). sets out (at + i) (bytesOf x v)) q
+    ∙ e
+
+pub write-end : (out t : List ℕ) (at i size n : ℕ) → size ≤ i → sets out (at + i) (bytesOf (size - i) n) ≡ t → out ≡ t
+write-end out t at i size n l e =
+    let z : 0 ≡ size - i = omega arith in
+    ap (λ (k : ℕ). sets out (at + i) (bytesOf k n)) z ∙ e

@@ -1,0 +1,16 @@
+-- `wide::body::is_negative` meets its contract. Assumes nothing.
+use mathlib.Core.Path.{_≡_, _∙_, ap, sym, refl}
+use mathlib.Core.Bool.{Bool, _&&_}
+use lib.Dec.{leb}
+use borrow.Author.Needs.{needs}
+use Rattle.wide.proofs.body.is_negative.Statement.{statement}
+use Rattle.wide.proofs.body.is_negative.Tie as tie
+
+returns : tie.Need-returns
+returns c = ap (λ (b : Bool). b && leb 128 (c .before .args .top)) (sym (c .if1 .taken))
+
+returns-2 : tie.Need-returns-2
+returns-2 c = search needs
+
+pub is-negative-spec : {M : Type 1} → statement M
+is-negative-spec = tie.close (tie.spec returns returns-2)

@@ -1,0 +1,104 @@
+-- `wide::body::read_body` meets its contract. Assumes nothing.
+use mathlib.Core.Path.{_≡_, _∙_, ap, sym, refl}
+use mathlib.Core.Bool.{Bool, _&&_}
+use Prim.Native.Nat.{ℕ, _+_, _-_, _≤_, _<_}
+use lib.ListN.{take, drop, getD}
+use lib.Dec.{leb}
+use native.Mathlib.Omega.{arith}
+use borrow.Author.Needs.{needs}
+use Rattle.wide.proofs.Numbers.{onto}
+use Rattle.wide.specs.Words.{wideOf}
+use Rattle.wide.specs.Body.{extended}
+use Rattle.wide.proofs.Bodies.{turn, body-end, body-read}
+use Rattle.wide.proofs.body.read_body.Statement.{statement}
+use Rattle.wide.proofs.body.read_body.Tie as tie
+
+abbrev Inv-loop : tie.InvT-loop
+Inv-loop s at size signed last w₀ i₀ w i =
+    (i ≤ size) × (w ≡ wideOf (onto (extended (signed && leb 128 (getD s last 0)) 0 0) (drop i (take size (drop at s)))))
+
+abbrev μ-loop : tie.MeasureT-loop
+μ-loop s at size signed last w₀ i₀ w i = i
+
+sub-last : tie.Need-sub-last Inv-loop μ-loop
+sub-last c = search needs
+
+add-last : tie.Need-add-last Inv-loop μ-loop
+add-last c = search needs
+
+shared-slice-read-is-negative : tie.Need-shared-slice-read-is-negative Inv-loop μ-loop
+shared-slice-read-is-negative c = search needs
+
+is-negative-requires : tie.Need-is-negative-requires Inv-loop μ-loop
+is-negative-requires c κs = search needs
+
+filled-requires : tie.Need-filled-requires Inv-loop μ-loop
+filled-requires c κs = search needs
+
+loop-holds : tie.Need-loop-holds Inv-loop μ-loop
+loop-holds c =
+    let a = c .before .before .before .before .args in
+    let p = c .before .before .before .before .pre in
+    let s = a .s .now in (
+      search needs,
+      c .filled .ensures
+          ∙ ap (λ (b : Bool). wideOf (extended b 0 0)) (c .before .is-negative .ensures)
+          ∙ ap wideOf (sym (body-end s (a .at) (a .size) (p .0) (p .1) (p .2) _)),
+    )
+
+sub-j : tie.Need-sub-j Inv-loop μ-loop
+sub-j c = search needs
+
+add-shift-in : tie.Need-add-shift-in Inv-loop μ-loop
+add-shift-in c = search needs
+
+shared-slice-read-shift-in : tie.Need-shared-slice-read-shift-in Inv-loop μ-loop
+shared-slice-read-shift-in c = search needs
+
+shift-in-requires : tie.Need-shift-in-requires Inv-loop μ-loop
+shift-in-requires c κs = search needs
+
+loop-less : tie.Need-loop-less Inv-loop μ-loop
+loop-less c = search needs
+
+loop-again : tie.Need-loop-again Inv-loop μ-loop
+loop-again c =
+    let a = c .before .before .before .before .before .before .before .before .args in
+    let p = c .before .before .before .before .before .before .before .before .pre in
+    let s = a .s .now in
+    let l = c .before .before .before .loop in (
+      search needs,
+      turn s (a .at) (a .size) (p .0) (p .1) (p .2) _ (l .i) (l .w) (c .shift-in .result) (search needs) (l .inv .0)
+          (c .before .shared-slice-known3 .given (a .at + (l .i - 1)) .fits) (l .inv .1) (c .shift-in .ensures),
+    )
+
+returns : tie.Need-returns Inv-loop μ-loop
+returns c =
+    let a = c .before .before .before .before .before .before .args in
+    let p = c .before .before .before .before .before .before .pre in
+    let s = a .s .now in
+    let l = c .before .loop in
+    let z : l .i ≡ 0 = search needs in
+    l .inv .1
+    ∙ ap (λ (k : ℕ). wideOf (onto (extended (a .signed && leb 128 (getD s (a .at + (a .size - 1)) 0)) 0 0) (drop k (take (a .size) (drop (a .at) s))))) z
+    ∙ body-read s (a .at) (a .size) (p .0) (p .1) (p .2) (a .signed) (λ i. c .before .before .before .before .before .shared-slice-known .given i .fits)
+
+pub read-body-spec : {M : Type 1} → statement M
+read-body-spec =
+    tie.close
+    (tie.spec
+    Inv-loop
+    μ-loop
+    sub-last
+    add-last
+    shared-slice-read-is-negative
+    is-negative-requires
+    filled-requires
+    loop-holds
+    sub-j
+    add-shift-in
+    shared-slice-read-shift-in
+    shift-in-requires
+    loop-less
+    loop-again
+    returns)

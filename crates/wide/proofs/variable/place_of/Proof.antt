@@ -1,0 +1,25 @@
+-- `wide::variable::place_of` meets its contract. Assumes nothing.
+use mathlib.Core.Path.{_≡_, _∙_, ap, sym}
+use Prim.Native.Nat.{ℕ, _+_, _-_, _%_}
+use native.Mathlib.Omega.{arith}
+use Rattle.wide.specs.Family.{behind}
+use Rattle.wide.proofs.Variables.{first-low}
+use borrow.Author.Needs.{needs}
+use Rattle.wide.proofs.variable.place_of.Statement.{statement}
+use Rattle.wide.proofs.variable.place_of.Tie as tie
+
+first-of-requires : tie.Need-first-of-requires
+first-of-requires c κs = search needs
+
+sub-result : tie.Need-sub-result
+sub-result c = omega (arith, c .first-of .ensures, first-low (c .before .args .signed))
+
+add-result : tie.Need-add-result
+add-result c = search needs
+
+returns : tie.Need-returns
+unfolding behind
+returns c = ap (λ (f : ℕ). (c .before .args .b + (256 - f)) % 256) (c .first-of .ensures)
+
+pub place-of-spec : {M : Type 1} → statement M
+place-of-spec = tie.close (tie.spec first-of-requires sub-result add-result returns)
