@@ -38,11 +38,8 @@ pub record Sound (F : Family) : Type 0 where
   pub marker-bytes : Bytes (F .marker)
   pub opening : Opening (F .alone) (F .marker)
 
--- what a reading of a family may be relied on for
+-- what is read of bytes is a number of 128 bits, and no fewer bytes say it
 pub record Reads (F : Family) (s : List ℕ) (n used : ℕ) : Type 0 where
-  pub some : 1 ≤ used
-  pub there : used ≤ length s
-  pub few : used ≤ length (F .marker) + 17
   pub small : n < whole
   pub least : length (form F n) ≤ used
 
@@ -107,6 +104,48 @@ marked-apart F (m ∷ ms) (b ∷ s) n used e =
     let a : Apart F ms s n (g .0) = marked-apart F ms s n (g .0) (g .2) in
     record { rest = a .rest; split = omega (arith, g .1, a .split); behind-it = a .behind-it; room = omega (arith, a .room) })
     (λ t. never-other n used (sym (cond-no (eqb b m) (longer (marked F ms s)) other t) ∙ e))
+
+-- ---- the bytes that a reading uses
+
+pub cond-case : {A : Type 0} (P : A → Type 0) (b : Bool) (x y : A) → (b ≡ true → P x) → (b ≡ false → P y) → P (cond b x y)
+cond-case P true x y f g = f refl
+cond-case P false x y f g = g refl
+
+-- what is read takes at least `low` bytes and at most `high`
+abbrev pub Takes : ℕ → ℕ → Coded → Type 0
+Takes low high (is n used) = (low ≤ used) × (used ≤ high)
+Takes low high short = Unit {0}
+Takes low high other = Unit {0}
+
+longer-takes : (low high : ℕ) (c : Coded) → Takes low high c → Takes 1 (suc high) (longer c)
+longer-takes low high (is n used) h = omega arith
+longer-takes low high short h = tt
+longer-takes low high other h = tt
+
+body-takes : (sign : Bool) (k : ℕ) (s : List ℕ) → Takes 0 (length s) (body sign k s)
+body-takes sign k s = cond-case (Takes 0 (length s)) (leb k (length s)) _ _ (λ p. omega (arith, leb-true k (length s) p)) (λ _. tt)
+
+unmarked-takes : (F : Family) (s : List ℕ) → Takes 1 (length s) (unmarked F s)
+unfolding unmarked
+unmarked-takes F [] = tt
+unmarked-takes F (b ∷ s) =
+    cond-case (Takes 1 (suc (length s))) (hasByte (F .direct) b) _ _ (λ _. omega arith)
+    (λ _. cond-case (Takes 1 (suc (length s))) (ltb (behind 256 (F .first) b) 8) _ _
+    (λ _. longer-takes 0 (length s) (body (F .signed) (sizeAt (behind 256 (F .first) b)) s) (body-takes (F .signed) (sizeAt (behind 256 (F .first) b)) s))
+    (λ _. tt))
+
+marked-takes : (F : Family) (ms s : List ℕ) → Takes 1 (length s) (marked F ms s)
+unfolding marked
+marked-takes F [] s = unmarked-takes F s
+marked-takes F (m ∷ ms) [] = tt
+marked-takes F (m ∷ ms) (b ∷ s) =
+    cond-case (Takes 1 (suc (length s))) (eqb b m) _ _ (λ _. longer-takes 1 (length s) (marked F ms s) (marked-takes F ms s)) (λ _. tt)
+
+pub coded-takes : (F : Family) (s : List ℕ) → Takes 1 (length s) (coded F s)
+unfolding coded
+coded-takes F [] = tt
+coded-takes F (b ∷ s) =
+    cond-case (Takes 1 (suc (length s))) (hasByte (F .alone) b) _ _ (λ _. omega arith) (λ _. marked-takes F (F .marker) (b ∷ s))
 
 module _ (F : Family) (good : Sound F) where
   -- the byte before a body names its place among the sizes
@@ -204,9 +243,6 @@ module _ (F : Family) (good : Sound F) where
 
   -- of what stands behind the marker
   record Behind (s : List ℕ) (n used : ℕ) : Type 0 where
-    some : 1 ≤ used
-    there : used ≤ length s
-    few : used ≤ 17
     small : n < whole
     least : length (unmarkedForm F n) ≤ used
 
@@ -216,9 +252,6 @@ module _ (F : Family) (good : Sound F) where
       let v : numberOf (F .direct) b ≡ n = cc in
       let h : hasNumber (F .direct) n ≡ true = ap (hasNumber (F .direct)) (sym v) ∙ number-has (F .direct) (good .direct-run) b ∙ t in
       record {
-        some = omega arith;
-        there = omega arith;
-        few = omega arith;
         small = subst (λ (x : ℕ). x < whole) v (number-small (F .direct) (good .direct-run) b);
         least = omega (arith, ap length (direct-form n h));
       }
@@ -238,9 +271,6 @@ module _ (F : Family) (good : Sound F) where
       let r : reach (F .signed) n < 256 ^ k =
       subst (λ (x : ℕ). reach (F .signed) n < 256 ^ x) d (subst (λ (x : ℕ). reach (F .signed) x < 256 ^ length bs) v (w .near)) in
       record {
-        some = omega arith;
-        there = omega arith;
-        few = omega (arith, size-high j l);
         small = m;
         least = omega (arith, unmarked-length n, size-mono (rank (F .signed) n) j l (rank-least (F .signed) n m j l r));
       })
@@ -264,14 +294,9 @@ module _ (F : Family) (good : Sound F) where
       let a : Apart F (F .marker) s n used = marked-apart F (F .marker) s n used e in
       let r : Behind (drop (length (F .marker)) s) n (a .rest) =
       read-unmarked (drop (length (F .marker)) s) n (a .rest) (bytes-drop (length (F .marker)) s h) (a .behind-it) in
-      let o : 1 ≤ used = omega (arith, a .split, r .some) in
-      record {
-        some = o;
-        there = omega (arith, a .split, a .room, r .there, length-drop (length (F .marker)) s);
-        few = omega (arith, a .split, r .few);
-        small = r .small;
-        least = form-length n used o (omega (arith, a .split, r .least));
-      }
+      let o : Takes 1 (length (drop (length (F .marker)) s)) (is n (a .rest)) =
+      subst (Takes 1 (length (drop (length (F .marker)) s))) (a .behind-it) (unmarked-takes F (drop (length (F .marker)) s)) in
+      record { small = r .small; least = form-length n used (omega (arith, a .split, o .0)) (omega (arith, a .split, r .least)) }
 
   read-alone : (b : ℕ) (s : List ℕ) (n used : ℕ) → hasByte (F .alone) b ≡ true → is (numberOf (F .alone) b) 1 ≡ is n used → Reads F (b ∷ s) n used
   read-alone b s n used t e =
@@ -279,14 +304,11 @@ module _ (F : Family) (good : Sound F) where
       let v : numberOf (F .alone) b ≡ n = cc in
       let h : hasNumber (F .alone) n ≡ true = ap (hasNumber (F .alone)) (sym v) ∙ number-has (F .alone) (good .alone-run) b ∙ t in
       record {
-        some = omega arith;
-        there = omega arith;
-        few = omega arith;
         small = subst (λ (x : ℕ). x < whole) v (number-small (F .alone) (good .alone-run) b);
         least = omega (arith, ap length (alone-form n h));
       }
 
-  -- whatever reads as n has at least the bytes of its form, and they are there
+  -- whatever reads as n has at least the bytes of its form
   pub reads : (s : List ℕ) (n used : ℕ) → Bytes s → coded F s ≡ is n used → Reads F s n used
   unfolding coded
   reads [] n used h e = never-short n used e

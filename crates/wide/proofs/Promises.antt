@@ -1,26 +1,25 @@
 -- What the public promises amount to: one answer, read back, nothing shorter. Assumes nothing.
-use mathlib.Core.Path.{_≡_, _∙_, sym, ap, subst}
-use mathlib.Core.Bool.{Bool, true, false}
-use mathlib.Core.List.{List, [], _∷_, _++_}
-use Prim.Native.Nat.{ℕ, _+_, _≤_, _<_}
+use mathlib.Core.Path.{_≡_, _∙_, sym, ap, subst, refl}
+use mathlib.Core.Bool.{Bool}
+use mathlib.Core.List.{List}
+use Prim.Native.Nat.{ℕ, _+_, _≤_}
 use native.Mathlib.Omega.{arith}
-use lib.ListN.{length, take, drop}
+use lib.ListN.{length, drop}
 use lib.Seq.{sets, sets-eq}
-use lib.Dec.{leb, ltb}
-use borrow.Author.Tests.{le-leb, lt-ltb, le-ltb}
+use lib.Dec.{leb}
+use borrow.Author.Tests.{le-leb}
 use Rattle.wide.specs.declared.wide.Wide.{Wide}
 use Rattle.wide.specs.declared.answer.Read.{Read}
 use Rattle.wide.specs.declared.answer.Read.the-variants.{Got, Short}
 use Rattle.wide.specs.declared.answer.Written.{Written}
-use Rattle.wide.specs.Words.{whole, valueOf, wideOf}
+use Rattle.wide.specs.Words.{valueOf, wideOf}
 use Rattle.wide.specs.Family.{Family, Coded, is, short, other, coded, form}
 use Rattle.wide.specs.Members.{variable}
 use Rattle.wide.specs.Answer.{readAs, readOf, writtenOf, outputOf}
 use Rattle.wide.proofs.Numbers.{Bytes}
 use Rattle.wide.proofs.Wides.{Words, wide-value, value-lt, value-wide}
-use Rattle.wide.proofs.Families.{Reads, reads, round-trip, cond-yes}
+use Rattle.wide.proofs.Families.{Takes, coded-takes, Reads, reads, round-trip, cond-yes}
 use Rattle.wide.proofs.Sound.{sound-variable}
-use Rattle.wide.proofs.Variables.{every-byte}
 
 -- two answers that a promise of reading allows are equal
 pub one-read : (F : Family) (s : List ℕ) (r r′ : Read) → r ≡ readOf F s → r′ ≡ readOf F s → r ≡ r′
@@ -50,18 +49,15 @@ write-read s w out h l =
 pub read-least : (s : Bool) (bs : List ℕ) (w : Wide) (used : ℕ) → Bytes bs → readOf (variable s) bs ≡ Got w used
     → (length (form (variable s) (valueOf w)) ≤ used) × (used ≤ length bs)
 unfolding readOf
-read-least s bs w used h e = of (coded (variable s) bs) (λ n u q. reads (variable s) (sound-variable s) bs n u h q) e
+read-least s bs w used h e = of (coded (variable s) bs) refl e
   where
-    of : (c : Coded) → ((n u : ℕ) → c ≡ is n u → Reads (variable s) bs n u) → readAs c ≡ Got w used
-        → (length (form (variable s) (valueOf w)) ≤ used) × (used ≤ length bs)
-    of (is n u) f q =
+    of : (c : Coded) → coded (variable s) bs ≡ c → readAs c ≡ Got w used → (length (form (variable s) (valueOf w)) ≤ used) × (used ≤ length bs)
+    of (is n u) g q =
         let p : u ≡ used = cc in
         let v : wideOf n ≡ w = cc in
-        let r : Reads (variable s) bs n u = f n u refl′ in
+        let r : Reads (variable s) bs n u = reads (variable s) (sound-variable s) bs n u h g in
         let m : valueOf w ≡ n = ap valueOf (sym v) ∙ value-wide n (r .small) in
-        (subst (λ (x : ℕ). length (form (variable s) x) ≤ used) (sym m) (omega (arith, r .least)), omega (arith, r .there))
-      where
-        refl′ : is n u ≡ is n u
-        refl′ = cc
-    of short f q = absurd (let z : _≡_ {A = ℕ} 0 1 = cc in omega arith)
-    of other f q = absurd (let z : _≡_ {A = ℕ} 0 1 = cc in omega arith)
+        let t : Takes 1 (length bs) (is n u) = subst (Takes 1 (length bs)) g (coded-takes (variable s) bs) in
+        (subst (λ (x : ℕ). length (form (variable s) x) ≤ used) (sym m) (omega (arith, r .least)), omega (arith, t .1))
+    of short g q = absurd (let z : _≡_ {A = ℕ} 0 1 = cc in omega arith)
+    of other g q = absurd (let z : _≡_ {A = ℕ} 0 1 = cc in omega arith)

@@ -31,7 +31,7 @@ use Rattle.wide.proofs.Families.{cond-yes, cond-no, coded-marked}
 
 -- ---- distances in the runs
 
-unsigned-behind : (n : ℕ) → n < whole → behind whole 0 n ≡ n
+pub unsigned-behind : (n : ℕ) → n < whole → behind whole 0 n ≡ n
 unfolding behind
 unsigned-behind n h = let e : whole - 0 ≡ whole = omega arith in ap (λ (x : ℕ). (n + x) % whole) e ∙ add-mod-right n whole ∙ mod-eq-of-lt h
 
@@ -193,7 +193,7 @@ module _ (w : Wide) (h : Words w) where
 
 -- ---- the numbers of direct bytes
 
-number-plain : (b : ℕ) → b < 256 → numberOf (unsigned .direct) b ≡ b
+pub number-plain : (b : ℕ) → b < 256 → numberOf (unsigned .direct) b ≡ b
 unfolding behind
 number-plain b h =
     let e : 0 + (b + (256 - 0)) % 256 ≡ b = omega arith in
@@ -266,7 +266,7 @@ size-some p k e h = omega (arith, size-low p h)
 pub size-few : (p k : ℕ) → k ≡ sizeAt p → p < 8 → k ≤ 16
 size-few p k e h = omega (arith, size-high p h)
 
-none-before : (s : Bool) (bs : List ℕ) → coded (variable s) bs ≡ unmarked (variable s) bs
+pub none-before : (s : Bool) (bs : List ℕ) → coded (variable s) bs ≡ unmarked (variable s) bs
 unfolding marked
 none-before true [] = coded-marked signed [] tt
 none-before true (b ∷ bs) = coded-marked signed (b ∷ bs) (le-ltb (behind 256 0 b) 0 (omega arith))

@@ -1,0 +1,169 @@
+-- What a value position, its children and a document read as, a law for each clause of the definitions. Assumes nothing.
+use mathlib.Core.Path.{_≡_, refl, sym, ap, _∙_}
+use mathlib.Core.Bool.{Bool}
+use mathlib.Core.List.{List}
+use Prim.Native.Nat.{ℕ, suc, _+_, _-_, _%_, _≤_, _<_}
+use native.Mathlib.Omega.{arith}
+use lib.ListN.{length}
+use lib.Dec.{eqb}
+use borrow.Author.Tests.{lt-ltb, le-ltb, eq-eqb, ne-eqb}
+use Rattle.rows.specs.Kinds.{kindForeign}
+use Rattle.format.specs.declared.refusal.Refusal.{Refusal}
+use Rattle.format.specs.declared.refusal.Refusal.the-variants as why
+use Rattle.format.specs.declared.head.Content.{Content}
+use Rattle.format.specs.declared.head.Holder.{Holder}
+use Rattle.format.specs.declared.head.Head.{Head}
+use Rattle.format.specs.declared.head.Head.the-variants.{Leaf, Hold, Refer, Declare, Foreign, Refuse}
+use Rattle.format.specs.declared.head.Children.{Children}
+use Rattle.format.specs.declared.head.Children.the-variants.{Plain, Keyed, Growing}
+use Rattle.format.specs.Refusal.{numberOf as refusalNumber}
+use Rattle.format.specs.Tree.{Tree, leaf, refer, hold, declare, Trees, none, more}
+use Rattle.format.specs.Head.{headAt, keyAt}
+use Rattle.format.specs.Value.{Reading, right, wrong, Run, ran, broke, Reader, leafOf, kindOf, childCount, childrenOf, keyed, inTurn, child, ahead, follow, run, held, referred, closed, declaring, framedRight, framed, inForeign, step, value, ended, whole, document}
+
+-- ---- a value position
+
+-- "9 deep" where no level is left
+pub value-deep : (d : ℕ) (s : List ℕ) (k at stop : ℕ) → d ≡ 0 → value d s k at stop ≡ wrong why.Deep at
+unfolding value
+value-deep d s k at stop z = rw z
+
+-- where one is left: the laws below speak of `suc d`, code of d and d - 1
+pub value-left : (d : ℕ) (s : List ℕ) (k at stop : ℕ) (x : Reading) → (d ≡ 0 → ⊥) → value (suc (d - 1)) s k at stop ≡ x → value d s k at stop ≡ x
+value-left d s k at stop x left e = let q : d ≡ suc (d - 1) = omega arith in ap (λ (m : ℕ). value m s k at stop) q ∙ e
+
+module _ (d : ℕ) (s : List ℕ) (k at stop : ℕ) (h : Head) (head : h ≡ headAt s at stop) where
+  by-head : (g : Head) → h ≡ g → value (suc d) s k at stop ≡ step (value d s) s k at stop g
+  unfolding value
+  by-head g e = ap (step (value d s) s k at stop) (sym head ∙ e)
+
+  pub value-refuse : (e : Refusal) (place : ℕ) → h ≡ Refuse e place → value (suc d) s k at stop ≡ wrong e place
+  unfolding step
+  value-refuse e place q = by-head (Refuse e place) q
+
+  pub value-leaf : (c : Content) (next : ℕ) → h ≡ Leaf c next → value (suc d) s k at stop ≡ right (leafOf s c) next
+  unfolding step
+  value-leaf c next q = by-head (Leaf c next) q
+
+  pub value-refer : (n next : ℕ) → h ≡ Refer n next → n < k → value (suc d) s k at stop ≡ right (refer n) next
+  unfolding step
+  value-refer n next q l = by-head (Refer n next) q ∙ ap (λ (b : Bool). referred b n at next) (lt-ltb n k l)
+
+  pub value-no-entry : (n next : ℕ) → h ≡ Refer n next → k ≤ n → value (suc d) s k at stop ≡ wrong why.NoEntry at
+  unfolding step
+  value-no-entry n next q l = by-head (Refer n next) q ∙ ap (λ (b : Bool). referred b n at next) (le-ltb n k l)
+
+  module _ (x : Holder) (n next : ℕ) (holder : h ≡ Hold x n next) where
+    pub value-hold : value (suc d) s k at stop ≡ held (kindOf x) n (run (value d s) (childrenOf x) s k 0 (childCount x n) next stop)
+    unfolding step
+    value-hold = by-head (Hold x n next) holder
+
+    pub value-held : (ts : Trees) (last : ℕ) → run (value d s) (childrenOf x) s k 0 (childCount x n) next stop ≡ ran ts last
+        → value (suc d) s k at stop ≡ right (hold (kindOf x) n ts) last
+    value-held ts last e = value-hold ∙ ap (held (kindOf x) n) e
+
+    pub value-hold-wrong : (e : Refusal) (place : ℕ) → run (value d s) (childrenOf x) s k 0 (childCount x n) next stop ≡ broke e place
+        → value (suc d) s k at stop ≡ wrong e place
+    value-hold-wrong e place q = value-hold ∙ ap (held (kindOf x) n) q
+
+  module _ (n next : ℕ) (declares : h ≡ Declare n next) where
+    pub value-declare : value (suc d) s k at stop ≡ declaring n (run (value d s) Growing s 0 0 n next stop) (value d s) stop
+    unfolding step
+    value-declare = by-head (Declare n next) declares
+
+    pub value-entry-wrong : (e : Refusal) (place : ℕ) → run (value d s) Growing s 0 0 n next stop ≡ broke e place → value (suc d) s k at stop ≡ wrong e place
+    value-entry-wrong e place q = value-declare ∙ ap (λ (y : Run). declaring n y (value d s) stop) q
+
+    module _ (es : Trees) (last : ℕ) (entries : run (value d s) Growing s 0 0 n next stop ≡ ran es last) where
+      behind-entries : value (suc d) s k at stop ≡ closed n es (value d s n last stop)
+      behind-entries = value-declare ∙ ap (λ (y : Run). declaring n y (value d s) stop) entries
+
+      pub value-declared : (t : Tree) (end : ℕ) → value d s n last stop ≡ right t end → value (suc d) s k at stop ≡ right (declare n es t) end
+      value-declared t end e = behind-entries ∙ ap (closed n es) e
+
+      pub value-declare-wrong : (e : Refusal) (place : ℕ) → value d s n last stop ≡ wrong e place → value (suc d) s k at stop ≡ wrong e place
+      value-declare-wrong e place q = behind-entries ∙ ap (closed n es) q
+
+  module _ (place n : ℕ) (foreign : h ≡ Foreign place n) where
+    pub value-foreign : value (suc d) s k at stop ≡ framed place n (value d s (inForeign k) place (place + n))
+    unfolding step
+    value-foreign = by-head (Foreign place n) foreign
+
+    module _ (t : Tree) (next : ℕ) (body : value d s (inForeign k) place (place + n) ≡ right t next) where
+      body-right : value (suc d) s k at stop ≡ framedRight (eqb next (place + n)) t place n
+      body-right = value-foreign ∙ ap (framed place n) body
+
+      pub value-framed : next ≡ place + n → value (suc d) s k at stop ≡ right (hold kindForeign 0 (more t none)) (place + n)
+      value-framed e = body-right ∙ ap (λ (b : Bool). framedRight b t place n) (eq-eqb next (place + n) e)
+
+      pub value-extra : (next ≡ place + n → ⊥) → value (suc d) s k at stop ≡ right (leaf kindForeign place n (refusalNumber why.Extra) 0) (place + n)
+      value-extra f = body-right ∙ ap (λ (b : Bool). framedRight b t place n) (ne-eqb next (place + n) f)
+
+    pub value-damaged : (e : Refusal) (p : ℕ) → value d s (inForeign k) place (place + n) ≡ wrong e p
+        → value (suc d) s k at stop ≡ right (leaf kindForeign place n (refusalNumber e) 0) (place + n)
+    value-damaged e p q = value-foreign ∙ ap (framed place n) q
+
+-- ---- children
+
+module _ (s : List ℕ) (at stop : ℕ) (h : Head) (head : h ≡ keyAt s at stop) where
+  pub keyed-leaf : (c : Content) (next : ℕ) → h ≡ Leaf c next → keyed s (keyAt s at stop) ≡ right (leafOf s c) next
+  keyed-leaf c next e = ap (keyed s) (sym head ∙ e)
+
+  pub keyed-refuse : (e : Refusal) (place : ℕ) → h ≡ Refuse e place → keyed s (keyAt s at stop) ≡ wrong e place
+  keyed-refuse e place q = ap (keyed s) (sym head ∙ q)
+
+module _ (R : Reader) (s : List ℕ) (k i at stop : ℕ) where
+  pub child-plain : child Plain R s k i at stop ≡ R k at stop
+  unfolding child
+  child-plain = refl
+
+  pub child-entry : child Growing R s k i at stop ≡ R i at stop
+  unfolding child
+  child-entry = refl
+
+  pub child-key : i % 2 ≡ 0 → child Keyed R s k i at stop ≡ keyed s (keyAt s at stop)
+  unfolding child
+  child-key e = ap (λ (b : Bool). inTurn b R s k at stop) (eq-eqb (i % 2) 0 e)
+
+  pub child-value : (i % 2 ≡ 0 → ⊥) → child Keyed R s k i at stop ≡ R k at stop
+  unfolding child
+  child-value f = ap (λ (b : Bool). inTurn b R s k at stop) (ne-eqb (i % 2) 0 f)
+
+module _ (R : Reader) (c : Children) (s : List ℕ) (k i : ℕ) where
+  pub run-none : (n at stop : ℕ) → n ≡ 0 → run R c s k i n at stop ≡ ran none at
+  unfolding run
+  run-none n at stop z = rw z
+
+  -- number i of n is left: the laws below speak of `suc m`, code of n - i and n - (i + 1)
+  pub run-left : (n at stop : ℕ) (y : Run) → i < n → run R c s k i (suc (n - (i + 1))) at stop ≡ y → run R c s k i (n - i) at stop ≡ y
+  run-left n at stop y l e = let q : n - i ≡ suc (n - (i + 1)) = omega arith in ap (λ (m : ℕ). run R c s k i m at stop) q ∙ e
+
+  module _ (m at stop : ℕ) where
+    pub run-next : run R c s k i (suc m) at stop ≡ follow (child c R s k i at stop) (λ next. run R c s k (i + 1) m next stop)
+    unfolding run
+    run-next = refl
+
+    pub run-more : (t : Tree) (next : ℕ) → child c R s k i at stop ≡ right t next
+        → run R c s k i (suc m) at stop ≡ ahead t (run R c s k (i + 1) m next stop)
+    run-more t next e = run-next ∙ ap (λ (x : Reading). follow x (λ next. run R c s k (i + 1) m next stop)) e
+
+    pub run-broke : (e : Refusal) (place : ℕ) → child c R s k i at stop ≡ wrong e place → run R c s k i (suc m) at stop ≡ broke e place
+    run-broke e place q = run-next ∙ ap (λ (x : Reading). follow x (λ next. run R c s k (i + 1) m next stop)) q
+
+-- ---- a document
+
+module _ (depth : ℕ) (s : List ℕ) where
+  module _ (t : Tree) (next : ℕ) (read : value (suc depth) s 0 0 (length s) ≡ right t next) where
+    read-to : document depth s ≡ ended (eqb next (length s)) t next
+    unfolding document
+    read-to = ap (whole (length s)) read
+
+    pub document-right : next ≡ length s → document depth s ≡ right t next
+    document-right e = read-to ∙ ap (λ (b : Bool). ended b t next) (eq-eqb next (length s) e)
+
+    pub document-extra : (next ≡ length s → ⊥) → document depth s ≡ wrong why.Extra next
+    document-extra f = read-to ∙ ap (λ (b : Bool). ended b t next) (ne-eqb next (length s) f)
+
+  pub document-wrong : (e : Refusal) (place : ℕ) → value (suc depth) s 0 0 (length s) ≡ wrong e place → document depth s ≡ wrong e place
+  unfolding document
+  document-wrong e place q = ap (whole (length s)) q

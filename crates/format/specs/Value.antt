@@ -1,0 +1,172 @@
+-- What a value position, and a document, read as. Assumes nothing: these are definitions.
+use Prim.Native.Nat.{ℕ, zero, suc, _+_, _*_, _%_}
+use mathlib.Core.Bool.{Bool, true, false, cond}
+use mathlib.Core.List.{List}
+use lib.ListN.{length, take, drop}
+use lib.Dec.{ltb, eqb}
+use Rattle.wide.specs.declared.wide.Wide.{Wide}
+use Rattle.wide.specs.Words.{wideOf}
+use Rattle.wide.specs.Body.{bodyValue}
+use Rattle.wide.specs.Family.{numberOf, hasNumber}
+use Rattle.wide.specs.Members.{integerSigned, integerUnsigned}
+use Rattle.rows.specs.Kinds.{kindSmall, kindSigned, kindUnsigned, kindChar, kindArray, kindRecord, kindMap, kindForeign}
+use Rattle.format.specs.declared.refusal.Refusal.{Refusal}
+use Rattle.format.specs.declared.refusal.Refusal.the-variants as why
+use Rattle.format.specs.declared.head.Content.{Content}
+use Rattle.format.specs.declared.head.Content.the-variants as holds
+use Rattle.format.specs.declared.head.Holder.{Holder}
+use Rattle.format.specs.declared.head.Holder.the-variants.{Array, Record, Map}
+use Rattle.format.specs.declared.head.Head.{Head}
+use Rattle.format.specs.declared.head.Head.the-variants.{Leaf, Hold, Refer, Declare, Foreign, Refuse}
+use Rattle.format.specs.declared.head.Children.{Children}
+use Rattle.format.specs.declared.head.Children.the-variants.{Plain, Keyed, Growing}
+use Rattle.format.specs.Refusal.{numberOf as refusalNumber}
+use Rattle.format.specs.Tree.{Tree, leaf, refer, hold, declare, Trees, none, more}
+use Rattle.format.specs.Head.{headAt, keyAt}
+
+-- what reading a position gives: the tree and the place behind it, or the refusal and its place
+pub data Reading : Type 0 where
+  right : (tree : Tree) → (next : ℕ) → Reading
+  wrong : (reason : Refusal) → (place : ℕ) → Reading
+
+-- the same of positions in a row
+pub data Run : Type 0 where
+  ran : (trees : Trees) → (next : ℕ) → Run
+  broke : (reason : Refusal) → (place : ℕ) → Run
+
+-- how a value position is read one level down: entries in force, place, stop
+abbrev pub Reader : Type 0
+Reader = ℕ → ℕ → ℕ → Reading
+
+-- ---- leaves
+
+-- "4 small, 5 signed, 6 unsigned integer: w0..w3: 128 bits, low word first"
+abbrev pub integerLeaf : ℕ → Wide → Tree
+integerLeaf kind w = leaf kind (w .w0) (w .w1) (w .w2) (w .w3)
+
+-- "An integer in -31..64 is kind 4 from every form; else its marker's signedness counts."
+abbrev pub integerKind : Bool → ℕ → ℕ
+integerKind true n = cond (hasNumber (integerSigned .direct) n) kindSmall kindSigned
+integerKind false n = cond (hasNumber (integerUnsigned .direct) n) kindSmall kindUnsigned
+
+abbrev pub integerOf : Bool → ℕ → Tree
+integerOf signed n = integerLeaf (integerKind signed n) (wideOf n)
+
+unfoldable pub leafOf : List ℕ → Content → Tree
+leafOf s (holds.Constant kind) = leaf kind 0 0 0 0
+leafOf s (holds.Small marker) = integerLeaf kindSmall (wideOf (numberOf (integerSigned .direct) marker))
+leafOf s (holds.Integer signed place size) = integerOf signed (bodyValue signed (take size (drop place s)))
+leafOf s (holds.Span kind place size) = leaf kind place size 0 0
+leafOf s (holds.Char codepoint) = leaf kindChar codepoint 0 0 0
+
+-- ---- children
+
+abbrev pub kindOf : Holder → ℕ
+kindOf Array = kindArray
+kindOf Record = kindRecord
+kindOf Map = kindMap
+
+-- "a record: key and value in turn; a map: two an entry"
+abbrev pub childCount : Holder → ℕ → ℕ
+childCount Array n = n
+childCount Record n = 2 * n
+childCount Map n = 2 * n
+
+abbrev pub childrenOf : Holder → Children
+childrenOf Array = Plain
+childrenOf Record = Keyed
+childrenOf Map = Plain
+
+abbrev pub keyed : List ℕ → Head → Reading
+keyed s (Leaf c next) = right (leafOf s c) next
+keyed s (Hold h n next) = wrong why.Marker next
+keyed s (Refer n next) = wrong why.Marker next
+keyed s (Declare n next) = wrong why.Marker next
+keyed s (Foreign place size) = wrong why.Marker place
+keyed s (Refuse e place) = wrong e place
+
+-- number i of a record's keys and values is a key where i is even
+abbrev pub inTurn : Bool → Reader → List ℕ → ℕ → ℕ → ℕ → Reading
+inTurn true R s around at stop = keyed s (keyAt s at stop)
+inTurn false R s around at stop = R around at stop
+
+-- "While entry i of a declaration is read, entries 0..i-1 of that declaration are in force and nothing outside it"
+unfoldable pub child : Children → Reader → List ℕ → ℕ → ℕ → ℕ → ℕ → Reading
+child Plain R s around i at stop = R around at stop
+child Keyed R s around i at stop = inTurn (eqb (i % 2) 0) R s around at stop
+child Growing R s around i at stop = R i at stop
+
+abbrev pub ahead : Tree → Run → Run
+ahead t (ran ts next) = ran (more t ts) next
+ahead t (broke e place) = broke e place
+
+-- one reading, then what follows at the place behind it
+abbrev pub follow : Reading → (ℕ → Run) → Run
+follow (right t next) rest = ahead t (rest next)
+follow (wrong e place) rest = broke e place
+
+-- n children in a row, the first of them number i
+unfoldable pub run : Reader → Children → List ℕ → ℕ → ℕ → ℕ → ℕ → ℕ → Run
+run R c s around i zero at stop = ran none at
+run R c s around i (suc n) at stop = follow (child c R s around i at stop) (λ next. run R c s around (i + 1) n next stop)
+
+-- ---- a value position
+
+abbrev pub held : ℕ → ℕ → Run → Reading
+held kind count (ran ts next) = right (hold kind count ts) next
+held kind count (broke e place) = wrong e place
+
+-- "7 no entry: reference not in force"
+abbrev pub referred : Bool → ℕ → ℕ → ℕ → Reading
+referred true number at next = right (refer number) next
+referred false number at next = wrong why.NoEntry at
+
+abbrev pub closed : ℕ → Trees → Reading → Reading
+closed n es (right t next) = right (declare n es t) next
+closed n es (wrong e place) = wrong e place
+
+-- "in its value position all n are, and they alone"
+abbrev pub declaring : ℕ → Run → Reader → ℕ → Reading
+declaring n (ran es next) R stop = closed n es (R n next stop)
+declaring n (broke e place) R stop = wrong e place
+
+-- "16 foreign, right: all 0, one child. Damaged: w0 place, w1 size, w2 verdict (2..10), no child"
+abbrev pub framedRight : Bool → Tree → ℕ → ℕ → Reading
+framedRight true t place size = right (hold kindForeign 0 (more t none)) (place + size)
+framedRight false t place size = right (leaf kindForeign place size (refusalNumber why.Extra) 0) (place + size)
+
+-- "A foreign body that is not a whole right document is damaged: its bytes are skipped, it gets one row with its verdict"
+abbrev pub framed : ℕ → ℕ → Reading → Reading
+framed place size (right t next) = framedRight (eqb next (place + size)) t place size
+framed place size (wrong e p) = right (leaf kindForeign place size (refusalNumber e) 0) (place + size)
+
+-- "A foreign body is read as a document of its own, under the registry in force around it."
+abbrev pub inForeign : ℕ → ℕ
+inForeign around = around
+
+-- by what stands at the position, with `around` entries in force; R reads one level down
+unfoldable pub step : Reader → List ℕ → ℕ → ℕ → ℕ → Head → Reading
+step R s around at stop (Leaf c next) = right (leafOf s c) next
+step R s around at stop (Hold h n next) = held (kindOf h) n (run R (childrenOf h) s around 0 (childCount h n) next stop)
+step R s around at stop (Refer n next) = referred (ltb n around) n at next
+step R s around at stop (Declare n next) = declaring n (run R Growing s 0 0 n next stop) R stop
+step R s around at stop (Foreign place size) = framed place size (R (inForeign around) place (place + size))
+step R s around at stop (Refuse e place) = wrong e place
+
+-- a value position with `levels` levels left, its own with them: "9 deep" where none is
+unfoldable pub value : ℕ → List ℕ → ℕ → ℕ → ℕ → Reading
+value zero s around at stop = wrong why.Deep at
+value (suc levels) s around at stop = step (value levels s) s around at stop (headAt s at stop)
+
+-- "A document is one value position, then the end."
+abbrev pub ended : Bool → Tree → ℕ → Reading
+ended true t next = right t next
+ended false t next = wrong why.Extra next
+
+abbrev pub whole : ℕ → Reading → Reading
+whole stop (right t next) = ended (eqb next stop) t next
+whole stop (wrong e place) = wrong e place
+
+-- "The document's is 0": a document whose positions nest to `depth`
+unfoldable pub document : ℕ → List ℕ → Reading
+document depth s = whole (length s) (value (suc depth) s 0 0 (length s))

@@ -1,0 +1,19 @@
+// What a document of the marker format means.
+mod answer;
+mod behind;
+mod body;
+mod count;
+mod head;
+mod number;
+mod position;
+mod refusal;
+
+pub use answer::Answer;
+pub use body::key_at;
+pub use head::Children;
+pub use head::Content;
+pub use head::Count;
+pub use head::Head;
+pub use head::Holder;
+pub use position::head_at;
+pub use refusal::Refusal;
