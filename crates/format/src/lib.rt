@@ -2,6 +2,7 @@
 mod answer;
 mod behind;
 mod body;
+mod children;
 mod count;
 mod head;
 mod number;

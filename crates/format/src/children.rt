@@ -1,0 +1,44 @@
+// What a holder says of its children.
+ghost use mathlib.Core.Path.{_≡_};
+ghost use Prim.Native.Nat.{_≤_};
+ghost use Rattle.rows.specs.Table.{limit};
+ghost use Rattle.format.specs.Value.{kindOf, childCount, childrenOf};
+use crate::head::Children;
+use crate::head::Holder;
+use rows::Row;
+
+impl Holder {
+    // The kind of its row.
+    pub fn kind(self) -> u32
+        ensures { λ r. ⌜ r ≡ kindOf self ⌝ }
+    {
+        match self {
+            Holder::Array => Row::ARRAY,
+            Holder::Record => Row::RECORD,
+            Holder::Map => Row::MAP,
+        }
+    }
+
+    // How many children stand for n elements or entries.
+    pub fn children(self, n: usize) -> usize
+        requires { ⌜ n ≤ limit ⌝ }
+        ensures { λ r. ⌜ r ≡ childCount self n ⌝ }
+    {
+        match self {
+            Holder::Array => n,
+            Holder::Record => 2 * n,
+            Holder::Map => 2 * n,
+        }
+    }
+
+    // How they are read.
+    pub fn reading(self) -> Children
+        ensures { λ r. ⌜ r ≡ childrenOf self ⌝ }
+    {
+        match self {
+            Holder::Array => Children::Plain,
+            Holder::Record => Children::Keyed,
+            Holder::Map => Children::Plain,
+        }
+    }
+}

@@ -1,0 +1,65 @@
+-- `measure::key::measure_key` meets its contract. Assumes nothing.
+use Rattle.measure.proofs.Measures.{key-leaf, key-refuse, key-hold, key-refer, key-declare, key-foreign}
+use borrow.Author.Needs.{needs}
+use Rattle.measure.proofs.key.measure_key.Statement.{statement}
+use Rattle.measure.proofs.key.measure_key.Tie as tie
+use Rattle.measure.proofs.key.measure_key.Reads as reads
+use Rattle.measure.proofs.key.measure_key.Lts as lts
+use Rattle.format.proofs.key_at.Reads as key-at-reads
+
+key-at-requires : tie.Need-key-at-requires
+key-at-requires c κs = search needs
+
+enum-known-h : tie.Need-enum-known-h
+enum-known-h c = search needs
+
+enum-known-h-2 : tie.Need-enum-known-h-2
+enum-known-h-2 c = search needs
+
+enum-known-h-3 : tie.Need-enum-known-h-3
+enum-known-h-3 c = search needs
+
+enum-known-h-4 : tie.Need-enum-known-h-4
+enum-known-h-4 c = search needs
+
+enum-known-h-5 : tie.Need-enum-known-h-5
+enum-known-h-5 c = search needs
+
+enum-known-h-6 : tie.Need-enum-known-h-6
+enum-known-h-6 c = search needs
+
+returns : tie.Need-returns
+returns c = search key-leaf
+
+returns-2 : tie.Need-returns-2
+returns-2 c = search key-refuse
+
+returns-3 : tie.Need-returns-3
+returns-3 c = search key-hold
+
+returns-4 : tie.Need-returns-4
+returns-4 c = search key-refer
+
+returns-5 : tie.Need-returns-5
+returns-5 c = search key-declare
+
+returns-6 : tie.Need-returns-6
+returns-6 c = search key-foreign
+
+pub measure-key-spec : {M : Type 1} → statement M
+measure-key-spec =
+    tie.close
+    (tie.spec
+    key-at-requires
+    enum-known-h
+    enum-known-h-2
+    enum-known-h-3
+    enum-known-h-4
+    enum-known-h-5
+    enum-known-h-6
+    returns
+    returns-2
+    returns-3
+    returns-4
+    returns-5
+    returns-6)
