@@ -21,7 +21,7 @@ use Rattle.wide.proofs.Wides.{Words, value-wide}
 use Rattle.wide.proofs.Runs.{bytes-whole}
 use Rattle.wide.proofs.Families.{cond-yes, cond-no, Takes, coded-takes, Reads, reads}
 use Rattle.wide.proofs.Sound.{sound-variable}
-use Rattle.wide.proofs.Variables.{none-before, number-plain, unsigned-behind, every-byte}
+use Rattle.wide.proofs.Variables.{none-before, every-byte}
 use Rattle.rows.specs.Table.{limit}
 use Rattle.format.specs.declared.refusal.Refusal.{Refusal}
 use Rattle.format.specs.declared.refusal.Refusal.the-variants as why
@@ -114,9 +114,12 @@ pub length-one : (s : List ℕ) (at stop b : ℕ) → at < stop → stop ≤ len
 unfolding countAt unmarked
 length-one s at stop b l h e g =
     let rest : List ℕ = part s (at + 1) stop in
-    let t : hasByte (unsigned .direct) b ≡ true = lt-ltb (behind 256 0 b) 248 (omega (arith, alone-distance 0 b (omega arith) (omega arith))) in
+    let f : behind 256 0 b ≡ b - 0 = alone-distance 0 b (omega arith) (omega arith) in
+    let t : hasByte (unsigned .direct) b ≡ true = lt-ltb (behind 256 0 b) 248 (omega arith) in
+    let z : 0 + (b - 0) ≡ b = omega arith in
+    let v : numberOf (unsigned .direct) b ≡ b = ap (λ (o : ℕ). (0 + o) % whole) f ∙ ap (λ (o : ℕ). o % whole) z ∙ mod-eq-of-lt (omega (arith, bytes-whole)) in
     sym (ap (λ (p : List ℕ). countOf at (coded unsigned p)) (part-cons s at stop l h ∙ ap (λ (x : ℕ). x ∷ rest) (sym e))
-    ∙ ap (countOf at) (none-before false (b ∷ rest) ∙ cond-yes (hasByte (unsigned .direct) b) _ _ t ∙ ap (λ (n : ℕ). is n 1) (number-plain b (omega arith)))
+    ∙ ap (countOf at) (none-before false (b ∷ rest) ∙ cond-yes (hasByte (unsigned .direct) b) _ _ t ∙ ap (λ (n : ℕ). is n 1) v)
     ∙ cond-yes (leb b limit) _ _ (le-leb b limit (omega arith)))
 
 module _ (s : List ℕ) (at stop : ℕ) (bytes : (i : ℕ) → getD s i 0 < 256) where

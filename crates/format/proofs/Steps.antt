@@ -5,7 +5,7 @@ use mathlib.Core.List.{List}
 use Prim.Native.Nat.{ℕ, suc, _+_, _-_, _%_, _≤_, _<_}
 use native.Mathlib.Omega.{arith}
 use lib.ListN.{length}
-use lib.Dec.{eqb}
+use lib.Dec.{eqb, ltb}
 use borrow.Author.Tests.{lt-ltb, le-ltb, eq-eqb, ne-eqb}
 use Rattle.rows.specs.Kinds.{kindForeign}
 use Rattle.format.specs.declared.refusal.Refusal.{Refusal}
@@ -45,13 +45,15 @@ module _ (d : ℕ) (s : List ℕ) (k at stop : ℕ) (h : Head) (head : h ≡ hea
   unfolding step
   value-leaf c next q = by-head (Leaf c next) q
 
-  pub value-refer : (n next : ℕ) → h ≡ Refer n next → n < k → value (suc d) s k at stop ≡ right (refer n) next
+  pub value-referred : (n next : ℕ) → h ≡ Refer n next → value (suc d) s k at stop ≡ referred (ltb n k) n at next
   unfolding step
-  value-refer n next q l = by-head (Refer n next) q ∙ ap (λ (b : Bool). referred b n at next) (lt-ltb n k l)
+  value-referred n next q = by-head (Refer n next) q
+
+  pub value-refer : (n next : ℕ) → h ≡ Refer n next → n < k → value (suc d) s k at stop ≡ right (refer n) next
+  value-refer n next q l = value-referred n next q ∙ ap (λ (b : Bool). referred b n at next) (lt-ltb n k l)
 
   pub value-no-entry : (n next : ℕ) → h ≡ Refer n next → k ≤ n → value (suc d) s k at stop ≡ wrong why.NoEntry at
-  unfolding step
-  value-no-entry n next q l = by-head (Refer n next) q ∙ ap (λ (b : Bool). referred b n at next) (le-ltb n k l)
+  value-no-entry n next q l = value-referred n next q ∙ ap (λ (b : Bool). referred b n at next) (le-ltb n k l)
 
   module _ (x : Holder) (n next : ℕ) (holder : h ≡ Hold x n next) where
     pub value-hold : value (suc d) s k at stop ≡ held (kindOf x) n (run (value d s) (childrenOf x) s k 0 (childCount x n) next stop)

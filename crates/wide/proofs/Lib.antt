@@ -1,6 +1,7 @@
 pub mod Bodies
 pub mod Examples
 pub mod Families
+pub mod Nearness
 pub mod Numbers
 pub mod Promises
 pub mod Ranking

@@ -1,242 +1,36 @@
 -- The variable integers as the code meets them: which words and bytes are direct, and each way out of reading and writing.
 -- Assumes nothing.
-use mathlib.Core.Path.{_≡_, _∙_, sym, ap, ap₂, refl, subst}
-use mathlib.Core.Bool.{Bool, true, false, not, cond, _&&_, and-eq-true-iff}
-use mathlib.Core.List.{List, [], _∷_, _++_}
-use Prim.Native.Nat.{ℕ, zero, suc, _+_, _-_, _*_, _%_, _^_, _≤_, _<_}
-use native.Mathlib.Nat.{mod-eq-of-lt, add-mod-right, not-suc-le-zero}
+use mathlib.Core.Path.{_≡_, _∙_, sym, ap, ap₂, refl}
+use mathlib.Core.Bool.{Bool, true, false, not}
+use mathlib.Core.List.{List, [], _∷_}
+use Prim.Native.Nat.{ℕ, suc, _+_, _-_, _*_, _%_, _^_, _≤_, _<_}
+use native.Mathlib.Nat.{add-mod-right, not-suc-le-zero}
 use native.Mathlib.Numerals.{add-one}
 use native.Mathlib.Omega.{arith}
-use lib.ListN.{length, set, take, drop, getD}
-use lib.Seq.{sets}
-use lib.Dec.{leb, ltb, eqb, lit≤}
-use borrow.Author.Tests.{le-leb, lt-leb, lt-ltb, le-ltb, eq-eqb, ne-eqb, eqb-true, eqb-false}
+use lib.ListN.{length, take, drop, getD}
+use lib.Dec.{leb, ltb, lit≤}
+use borrow.Author.Tests.{le-leb, lt-leb, lt-ltb, le-ltb}
 use Rattle.wide.specs.declared.wide.Wide.{Wide}
-use Rattle.wide.specs.declared.answer.Read.{Read}
 use Rattle.wide.specs.declared.answer.Read.the-variants.{Got, Short}
-use Rattle.wide.specs.declared.answer.Written.{Written}
-use Rattle.wide.specs.declared.answer.Written.the-variants.{Done, NoRoom}
 use Rattle.wide.specs.Number.{bytesOf}
-use Rattle.wide.specs.Words.{whole, words, valueOf, wideOf}
+use Rattle.wide.specs.Words.{whole, wideOf}
 use Rattle.wide.specs.Body.{sizeAt, bodyValue, rank}
-use Rattle.wide.specs.Family.{Run, behind, hasByte, numberOf, hasNumber, byteOf, Coded, is, short, other, longer, body, unmarked, marked, coded, unmarkedForm, form}
+use Rattle.wide.specs.Family.{behind, hasByte, numberOf, hasNumber, byteOf, Coded, is, short, other, longer, body, unmarked, marked, coded, unmarkedForm, form}
 use Rattle.wide.specs.Members.{none, unsigned, signed, variable}
-use Rattle.wide.specs.Answer.{readAs, readOf, writtenOf, outputOf}
-use Rattle.wide.proofs.Numbers.{either, Bytes, length-bytesOf}
-use Rattle.wide.proofs.Wides.{Words, whole-words, wide-value, value-lt, carry-lt}
-use Rattle.wide.proofs.Steps.{carry-le}
+use Rattle.wide.specs.Answer.{readAs, readOf}
+use Rattle.wide.proofs.Numbers.{either, Bytes}
+use Rattle.wide.proofs.Nearness.{behind-up, behind-round, behind-zero}
 use Rattle.wide.proofs.Ranks.{bool-case, size-low, size-high}
-use Rattle.wide.proofs.Runs.{bytes-whole}
 use Rattle.wide.proofs.Families.{cond-yes, cond-no, coded-marked}
-
--- ---- distances in the runs
-
-pub unsigned-behind : (n : ℕ) → n < whole → behind whole 0 n ≡ n
-unfolding behind
-unsigned-behind n h = let e : whole - 0 ≡ whole = omega arith in ap (λ (x : ℕ). (n + x) % whole) e ∙ add-mod-right n whole ∙ mod-eq-of-lt h
-
--- the numbers -124 and up begin 124 before 0
-back-again : (k m : ℕ) → k ≤ m → m - (m - k) ≡ k
-back-again k m h = omega arith
-
-signed-near : (n : ℕ) → n + 124 < whole → behind whole (whole - 124) n ≡ n + 124
-unfolding behind
-signed-near n h = ap (λ (x : ℕ). (n + x) % whole) (back-again 124 whole (omega (arith, bytes-whole))) ∙ mod-eq-of-lt h
-
-signed-round : (n : ℕ) → n < whole → whole ≤ n + 124 → behind whole (whole - 124) n ≡ n + 124 - whole
-unfolding behind
-signed-round n h l =
-    let e : n + 124 ≡ (n + 124 - whole) + whole = omega arith in
-    let m : n + 124 - whole < whole = omega (arith, bytes-whole) in
-    ap (λ (x : ℕ). (n + x) % whole) (back-again 124 whole (omega (arith, bytes-whole)))
-    ∙ ap (λ (x : ℕ). x % whole) e ∙ add-mod-right (n + 124 - whole) whole ∙ mod-eq-of-lt m
-
--- ---- which numbers are direct
-
-has-unsigned : (n : ℕ) → n < whole → hasNumber (unsigned .direct) n ≡ ltb n 248
-has-unsigned n h = ap (λ (x : ℕ). ltb x 248) (unsigned-behind n h)
-
--- from 0 up, from -124 up, and between
-has-low : (n : ℕ) → n + 256 ≤ whole → hasNumber (signed .direct) n ≡ ltb n 124
-has-low n h =
-    ap (λ (x : ℕ). ltb x 248) (signed-near n (omega arith))
-    ∙ either 124 n (λ l. le-ltb (n + 124) 248 (omega arith) ∙ sym (le-ltb n 124 l)) (λ l. lt-ltb (n + 124) 248 (omega arith) ∙ sym (lt-ltb n 124 l))
-
-has-high : (n d : ℕ) → n + d ≡ whole → 0 < d → 124 < d → 248 ≤ n → hasNumber (signed .direct) n ≡ false
-has-high n d e p h l = ap (λ (x : ℕ). ltb x 248) (signed-near n (omega arith)) ∙ le-ltb (n + 124) 248 (omega arith)
-
-has-top : (n d : ℕ) → n + d ≡ whole → 0 < d → d ≤ 124 → hasNumber (signed .direct) n ≡ true
-has-top n d e p h = ap (λ (x : ℕ). ltb x 248) (signed-round n (omega arith) (omega arith)) ∙ lt-ltb (n + 124 - whole) 248 (omega arith)
-
--- ---- four words whose high three are all the same
-
-pub none-first : (a b c x : ℕ) → (a ≡ x → ⊥) → false ≡ (eqb a x && (eqb b x && eqb c x))
-none-first a b c x h = sym (ap (λ (t : Bool). t && (eqb b x && eqb c x)) (ne-eqb a x h))
-
-pub none-second : (a b c x : ℕ) → a ≡ x → (b ≡ x → ⊥) → false ≡ (eqb a x && (eqb b x && eqb c x))
-none-second a b c x e h = sym (ap₂ (λ (s t : Bool). s && (t && eqb c x)) (eq-eqb a x e) (ne-eqb b x h))
-
-pub all-first : (a b c x : ℕ) → a ≡ x → b ≡ x → eqb c x ≡ (eqb a x && (eqb b x && eqb c x))
-all-first a b c x e h = sym (ap₂ (λ (s t : Bool). s && (t && eqb c x)) (eq-eqb a x e) (eq-eqb b x h))
-
-above-yes : (a b c x : ℕ) → (eqb a x && (eqb b x && eqb c x)) ≡ true → (a ≡ x) × (b ≡ x) × (c ≡ x)
-above-yes a b c x e =
-    let p = and-eq-true-iff (eqb a x) (eqb b x && eqb c x) .0 e in
-    let q = and-eq-true-iff (eqb b x) (eqb c x) .0 (p .1) in
-    (eqb-true a x (p .0), eqb-true b x (q .0), eqb-true c x (q .1))
-
-above-no : (X : Type 0) (a b c x : ℕ) → (eqb a x && (eqb b x && eqb c x)) ≡ false → ((a ≡ x → ⊥) → X) → ((b ≡ x → ⊥) → X) → ((c ≡ x → ⊥) → X) → X
-above-no X a b c x e f g h =
-    bool-case (eqb a x)
-    (λ p. bool-case (eqb b x)
-    (λ q. h (eqb-false c x (sym (ap₂ (λ (s t : Bool). s && (t && eqb c x)) p q) ∙ e)))
-    (λ q. g (eqb-false b x q)))
-    (λ p. f (eqb-false a x p))
-
-value-low : (w : Wide) → w .w1 ≡ 0 → w .w2 ≡ 0 → w .w3 ≡ 0 → valueOf w ≡ w .w0
-value-low w a b c = let z : w .w1 + 2 ^ 32 * (w .w2 + 2 ^ 32 * w .w3) ≡ 0 = omega arith in bare (w .w0) _ z
-  where
-    bare : (x m : ℕ) → m ≡ 0 → x + 2 ^ 32 * m ≡ x
-    bare x m h = omega arith
-
-value-some : (a b c d : ℕ) → 0 < b + 2 ^ 32 * (c + 2 ^ 32 * d) → 2 ^ 32 ≤ a + 2 ^ 32 * (b + 2 ^ 32 * (c + 2 ^ 32 * d))
-value-some a b c d h = carry-le a _ 1 h
-
--- all ones above the low word: 2 ^ 32 less than whole and the low word more
-ones-step : (w m k : ℕ) → w ≡ 4294967295 → m + 1 ≡ k → w + 2 ^ 32 * m + 1 ≡ 2 ^ 32 * k
-ones-step w m k a b = omega arith
-
-top-step : (w m k : ℕ) → m + 1 ≡ k → w + 2 ^ 32 * m + 2 ^ 32 ≡ 2 ^ 32 * k + w
-top-step w m k h = omega arith
-
-value-ones : (w : Wide) → w .w1 ≡ 4294967295 → w .w2 ≡ 4294967295 → w .w3 ≡ 4294967295 → valueOf w + 2 ^ 32 ≡ whole + w .w0
-value-ones w a b c =
-    let e3 : w .w3 + 1 ≡ 2 ^ 32 = omega arith in
-    top-step (w .w0) _ _ (ones-step (w .w1) _ _ a (ones-step (w .w2) (w .w3) (2 ^ 32) b e3)) ∙ ap (λ (x : ℕ). x + w .w0) (sym whole-words)
-
--- not all ones: below that
-less-here : (w m k : ℕ) → w + 1 < 2 ^ 32 → m < k → w + 2 ^ 32 * m + 1 < 2 ^ 32 * k
-less-here w m k h l = omega arith
-
-less-above : (w m k : ℕ) → w < 2 ^ 32 → m + 1 < k → w + 2 ^ 32 * m + 1 < 2 ^ 32 * k
-less-above w m k h l = omega arith
-
-less-top : (w m k : ℕ) → w < 2 ^ 32 → m + 1 < k → w + 2 ^ 32 * m + 2 ^ 32 < 2 ^ 32 * k
-less-top w m k h l = omega arith
-
-not-ones : (x : ℕ) → x < 2 ^ 32 → (x ≡ 4294967295 → ⊥) → x + 1 < 2 ^ 32
-not-ones x h l = omega arith
-
-value-less : (w : Wide) → Words w → (eqb (w .w1) 4294967295 && (eqb (w .w2) 4294967295 && eqb (w .w3) 4294967295)) ≡ false → valueOf w + 2 ^ 32 < whole
-value-less w h e =
-    subst (λ (k : ℕ). valueOf w + 2 ^ 32 < k) (sym whole-words)
-    (less-top (w .w0) _ _ (h .f0)
-    (above-no (w .w1 + 2 ^ 32 * (w .w2 + 2 ^ 32 * w .w3) + 1 < 2 ^ 32 * (2 ^ 32 * 2 ^ 32)) (w .w1) (w .w2) (w .w3) 4294967295 e
-    (λ n. less-here (w .w1) _ _ (not-ones (w .w1) (h .f1) n) (carry-lt (w .w2) (w .w3) (2 ^ 32) (h .f2) (h .f3)))
-    (λ n. less-above (w .w1) _ _ (h .f1) (less-here (w .w2) (w .w3) (2 ^ 32) (not-ones (w .w2) (h .f2) n) (h .f3)))
-    (λ n. less-above (w .w1) _ _ (h .f1) (less-above (w .w2) (w .w3) (2 ^ 32) (h .f2) (not-ones (w .w3) (h .f3) n)))))
-
-some-above : (w : Wide) → (eqb (w .w1) 0 && (eqb (w .w2) 0 && eqb (w .w3) 0)) ≡ false → 2 ^ 32 ≤ valueOf w
-some-above w e =
-    value-some (w .w0) (w .w1) (w .w2) (w .w3)
-    (above-no (0 < w .w1 + 2 ^ 32 * (w .w2 + 2 ^ 32 * w .w3)) (w .w1) (w .w2) (w .w3) 0 e (λ n. omega arith) (λ n. omega arith) (λ n. omega arith))
-
--- ---- the tests of the code
-
-word-whole : 2 ^ 32 + 2 ^ 32 ≤ whole
-unfolding whole
-word-whole = lit≤ tt
-
-module _ (w : Wide) (h : Words w) where
-  abbrev noneAbove : Bool
-  noneAbove = eqb (w .w1) 0 && (eqb (w .w2) 0 && eqb (w .w3) 0)
-
-  abbrev onesAbove : Bool
-  onesAbove = eqb (w .w1) 4294967295 && (eqb (w .w2) 4294967295 && eqb (w .w3) 4294967295)
-
-  low-value : noneAbove ≡ true → valueOf w ≡ w .w0
-  low-value e = let z = above-yes (w .w1) (w .w2) (w .w3) 0 e in value-low w (z .0) (z .1) (z .2)
-
-  pub direct-low : (s r : Bool) → r ≡ noneAbove → r ≡ true → s ≡ true → ltb (w .w0) 124 ≡ hasNumber (variable s .direct) (valueOf w)
-  direct-low s r a b c =
-      let v : valueOf w ≡ w .w0 = low-value (sym a ∙ b) in
-      sym (ap₂ (λ (t : Bool) (n : ℕ). hasNumber (variable t .direct) n) c v ∙ has-low (w .w0) (omega (arith, h .f0, word-whole)))
-
-  pub direct-plain : (s r : Bool) → r ≡ noneAbove → r ≡ true → s ≡ false → ltb (w .w0) 248 ≡ hasNumber (variable s .direct) (valueOf w)
-  direct-plain s r a b c =
-      let v : valueOf w ≡ w .w0 = low-value (sym a ∙ b) in
-      sym (ap₂ (λ (t : Bool) (n : ℕ). hasNumber (variable t .direct) n) c v ∙ has-unsigned (w .w0) (omega (arith, h .f0, word-whole)))
-
-  pub none-plain : (s r : Bool) → r ≡ noneAbove → r ≡ false → s ≡ false → false ≡ hasNumber (variable s .direct) (valueOf w)
-  none-plain s r a b c =
-      let m : 2 ^ 32 ≤ valueOf w = some-above w (sym a ∙ b) in
-      sym (ap (λ (t : Bool). hasNumber (variable t .direct) (valueOf w)) c ∙ has-unsigned (valueOf w) (value-lt w h) ∙ le-ltb (valueOf w) 248 (omega arith))
-
-  pub direct-high : (s r : Bool) → r ≡ onesAbove → r ≡ true → s ≡ true → leb 4294967172 (w .w0) ≡ hasNumber (variable s .direct) (valueOf w)
-  direct-high s r a b c =
-      let z = above-yes (w .w1) (w .w2) (w .w3) 4294967295 (sym a ∙ b) in
-      let v : valueOf w + 2 ^ 32 ≡ whole + w .w0 = value-ones w (z .0) (z .1) (z .2) in
-      let d : valueOf w + (2 ^ 32 - w .w0) ≡ whole = omega (arith, h .f0) in
-      let p : 0 < 2 ^ 32 - w .w0 = omega (arith, h .f0) in
-      sym (ap (λ (t : Bool). hasNumber (variable t .direct) (valueOf w)) c
-      ∙ either 4294967172 (w .w0)
-      (λ l. has-top (valueOf w) (2 ^ 32 - w .w0) d p (omega arith) ∙ sym (le-leb 4294967172 (w .w0) l))
-      (λ l. has-high (valueOf w) (2 ^ 32 - w .w0) d p (omega arith) (omega (arith, word-whole)) ∙ sym (lt-leb 4294967172 (w .w0) l)))
-
-  pub none-between : (s q r : Bool) → q ≡ noneAbove → q ≡ false → r ≡ onesAbove → r ≡ false → s ≡ true → false ≡ hasNumber (variable s .direct) (valueOf w)
-  none-between s q r a b c d e =
-      let m : 2 ^ 32 ≤ valueOf w = some-above w (sym a ∙ b) in
-      let l : valueOf w + 2 ^ 32 < whole = value-less w h (sym c ∙ d) in
-      let f : valueOf w + (whole - valueOf w) ≡ whole = omega arith in
-      sym (ap (λ (t : Bool). hasNumber (variable t .direct) (valueOf w)) e
-      ∙ has-high (valueOf w) (whole - valueOf w) f (omega arith) (omega arith) (omega arith))
 
 -- ---- the numbers of direct bytes
 
-pub number-plain : (b : ℕ) → b < 256 → numberOf (unsigned .direct) b ≡ b
+pub number-plain : (b : ℕ) → b < 256 → (whole - 0 + b) % whole ≡ numberOf (unsigned .direct) b
 unfolding behind
 number-plain b h =
-    let e : 0 + (b + (256 - 0)) % 256 ≡ b = omega arith in
-    ap (λ (x : ℕ). x % whole) e ∙ mod-eq-of-lt (omega (arith, bytes-whole))
-
-number-low : (b : ℕ) → b < 132 → numberOf (signed .direct) b ≡ b
-unfolding behind
-number-low b h =
-    let e : whole - 124 + (b + (256 - 0x84)) % 256 ≡ b + whole = omega (arith, bytes-whole) in
-    ap (λ (x : ℕ). x % whole) e ∙ add-mod-right b whole ∙ mod-eq-of-lt (omega (arith, bytes-whole))
-
-number-high : (b : ℕ) → 132 ≤ b → b < 256 → numberOf (signed .direct) b ≡ whole - 256 + b
-unfolding behind
-number-high b l h =
-    let e : whole - 124 + (b + (256 - 0x84)) % 256 ≡ whole - 256 + b = omega (arith, bytes-whole) in
-    let m : whole - 256 + b < whole = omega (arith, bytes-whole) in
-    ap (λ (x : ℕ). x % whole) e ∙ mod-eq-of-lt m
-
-wide-small : (b : ℕ) → b < 256 → words b 0 0 0 ≡ wideOf b
-wide-small b h =
-    let w : Wide = words b 0 0 0 in
-    let k : Words w = record { f0 = omega arith; f1 = omega arith; f2 = omega arith; f3 = omega arith } in
-    sym (wide-value w k) ∙ ap wideOf (value-low w refl refl refl)
-
-pub small-plain : (s : Bool) (b : ℕ) (r : Wide) → b < 256 → s ≡ false → r ≡ words b 0 0 0 → r ≡ wideOf (numberOf (variable s .direct) b)
-small-plain s b r h e g =
-    g ∙ wide-small b h ∙ ap wideOf (sym (ap (λ (t : Bool). numberOf (variable t .direct) b) e ∙ number-plain b h))
-
-pub small-signed : (s : Bool) (b : ℕ) (r : Wide) → b < 132 → s ≡ true → r ≡ words b 0 0 0 → r ≡ wideOf (numberOf (variable s .direct) b)
-small-signed s b r h e g =
-    g ∙ wide-small b (omega arith) ∙ ap wideOf (sym (ap (λ (t : Bool). numberOf (variable t .direct) b) e ∙ number-low b h))
-
-pub high-signed : (s : Bool) (b : ℕ) → b < 256 → 132 ≤ b → s ≡ true
-    → words (4294967040 + b) 4294967295 4294967295 4294967295 ≡ wideOf (numberOf (variable s .direct) b)
-high-signed s b h l e =
-    let w : Wide = words (4294967040 + b) 4294967295 4294967295 4294967295 in
-    let k : Words w = record { f0 = omega arith; f1 = omega arith; f2 = omega arith; f3 = omega arith } in
-    let v : valueOf w + 2 ^ 32 ≡ whole + (4294967040 + b) = value-ones w refl refl refl in
-    let x : valueOf w ≡ whole - 256 + b = down (valueOf w) v in
-    sym (wide-value w k) ∙ ap wideOf (x ∙ sym (ap (λ (t : Bool). numberOf (variable t .direct) b) e ∙ number-high b l h))
-  where
-    down : (n : ℕ) → n + 2 ^ 32 ≡ whole + (4294967040 + b) → n ≡ whole - 256 + b
-    down n v = omega (arith, bytes-whole)
+    let e : whole - 0 + b ≡ b + whole = omega arith in
+    let f : 0 + (b + (256 - 0)) % 256 ≡ b = omega arith in
+    ap (λ (x : ℕ). x % whole) e ∙ add-mod-right b whole ∙ sym (ap (λ (x : ℕ). x % whole) f)
 
 -- a byte is direct exactly where no body follows it
 direct-byte : (s : Bool) (b : ℕ) → b < 256 → hasByte (variable s .direct) b ≡ not (ltb (behind 256 (variable s .first) b) 8)
@@ -334,7 +128,9 @@ module _ (s : Bool) where
 -- ---- writing, by each way out
 
 byte-plain : (n : ℕ) → n < whole → byteOf (unsigned .direct) n ≡ n % 256
-byte-plain n h = let e : 0 + n ≡ n = omega arith in ap (λ (x : ℕ). (0 + x) % 256) (unsigned-behind n h) ∙ ap (λ (x : ℕ). x % 256) e
+byte-plain n h =
+    let e : 0 + (n + 0) ≡ n = omega arith in
+    ap (λ (x : ℕ). (0 + x) % 256) (sym (behind-zero n) ∙ behind-up 0 n (lit≤ tt) (omega arith)) ∙ ap (λ (x : ℕ). x % 256) e
 
 whole-bytes : whole ≡ 256 * 2 ^ 120
 unfolding whole
@@ -350,8 +146,8 @@ near-byte n = omega arith
 byte-signed : (n : ℕ) → n < whole → byteOf (signed .direct) n ≡ n % 256
 byte-signed n h =
     either whole (n + 124)
-    (λ l. ap (λ (x : ℕ). (0x84 + x) % 256) (signed-round n h l) ∙ round-byte n whole (2 ^ 120) whole-bytes h l)
-    (λ l. ap (λ (x : ℕ). (0x84 + x) % 256) (signed-near n l) ∙ near-byte n)
+    (λ l. ap (λ (x : ℕ). (0x84 + x) % 256) (behind-round 124 n (lit≤ tt) h l) ∙ round-byte n whole (2 ^ 120) whole-bytes h l)
+    (λ l. ap (λ (x : ℕ). (0x84 + x) % 256) (behind-up 124 n (lit≤ tt) l) ∙ near-byte n)
 
 low-byte : (s : Bool) (n : ℕ) → n < whole → byteOf (variable s .direct) n ≡ n % 256
 low-byte true n h = byte-signed n h

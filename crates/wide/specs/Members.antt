@@ -32,6 +32,11 @@ integerSigned = record { alone = none; marker = []; direct = run 0x20 96 (whole 
 abbrev pub integerUnsigned : Family
 integerUnsigned = record { alone = none; marker = []; direct = run 0x3f 65 0; first = 0x18; signed = false }
 
+-- the integer at a value position of that sign
+abbrev pub integer : Bool → Family
+integer true = integerSigned
+integer false = integerUnsigned
+
 -- a run of markers that are lengths, counts or numbers, or a marker and an unsigned variable integer
 abbrev pub headed : Run → List ℕ → Family
 headed alone marker = record { alone = alone; marker = marker; direct = unsigned .direct; first = unsigned .first; signed = false }

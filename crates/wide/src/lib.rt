@@ -8,6 +8,8 @@ ghost use Rattle.wide.specs.Answer.{readOf, writtenOf, outputOf};
 
 pub mod answer;
 pub mod body;
+pub mod integer;
+mod near;
 pub mod number;
 pub mod size;
 mod step;

@@ -1,15 +1,14 @@
 // The variable integers of both signs.
 ghost use mathlib.Core.Path.{_≡_};
-ghost use mathlib.Core.Bool.{_&&_};
 ghost use lib.ListN.{length};
-ghost use lib.Dec.{eqb};
-ghost use Rattle.wide.specs.Words.{words, valueOf, wideOf};
+ghost use Rattle.wide.specs.Words.{valueOf, wideOf};
 ghost use Rattle.wide.specs.Family.{behind, numberOf, hasNumber, form};
 ghost use Rattle.wide.specs.Members.{variable};
 ghost use Rattle.wide.specs.Answer.{readOf, writtenOf, outputOf};
 use crate::answer::Read;
 use crate::answer::Written;
 use crate::body;
+use crate::near;
 use crate::size;
 use crate::step;
 use crate::wide::Wide;
@@ -28,34 +27,14 @@ fn place_of(b: u8, signed: bool) -> usize
     (b as usize + (256 - first_of(signed))) % 256
 }
 
-// A byte as a number of 128 bits.
-fn small(b: u8) -> Wide
-    ensures { λ r. ⌜ r ≡ words b 0 0 0 ⌝ }
-{
-    Wide {
-        w0: b as u32,
-        w1: 0,
-        w2: 0,
-        w3: 0,
-    }
-}
-
 // The number of a byte that no body follows.
 fn direct(b: u8, signed: bool) -> Wide
     ensures { λ r. ⌜ r ≡ wideOf (numberOf (variable signed .direct) b) ⌝ }
 {
-    if !signed {
-        return small(b);
+    if signed {
+        return near::near(124, (b as u32 + 124) % 256);
     }
-    if b < 132 {
-        return small(b);
-    }
-    Wide {
-        w0: 4294967040 + b as u32,
-        w1: 4294967295,
-        w2: 4294967295,
-        w3: 4294967295,
-    }
+    near::near(0, b as u32)
 }
 
 // A variable integer at the front of a slice.
@@ -82,36 +61,14 @@ pub fn read(s: &[u8], signed: bool) -> Read
     Read::Got { value, used: 1 }
 }
 
-// Whether the three high words are all that word.
-fn above(w: Wide, word: u32) -> bool
-    ensures { λ r. ⌜ r ≡ (eqb (w .w1) word && (eqb (w .w2) word && eqb (w .w3) word)) ⌝ }
-{
-    if w.w1 != word {
-        return false;
-    }
-    if w.w2 != word {
-        return false;
-    }
-    w.w3 == word
-}
-
 // Whether a byte alone is the number.
 fn is_direct(w: Wide, signed: bool) -> bool
     ensures { λ r. ⌜ r ≡ hasNumber (variable signed .direct) (valueOf w) ⌝ }
 {
-    if above(w, 0) {
-        if signed {
-            return w.w0 < 124;
-        }
-        return w.w0 < 248;
+    if signed {
+        return near::is_near(w, 124, 124);
     }
-    if !signed {
-        return false;
-    }
-    if above(w, 4294967295) {
-        return 4294967172 <= w.w0;
-    }
-    false
+    near::is_near(w, 0, 248)
 }
 
 // A variable integer, shortest, at the front of an output.

@@ -1,28 +1,19 @@
--- `wide::variable::direct` meets its contract: a law of Variables for each way out. Assumes nothing.
-use borrow.Author.Tests.{not-true, not-false}
-use Rattle.wide.proofs.Variables.{small-plain, small-signed, high-signed}
+-- `wide::variable::direct` meets its contract: a byte stands as far behind 84 as its number behind -124; unsigned it is its number.
+-- Assumes nothing.
+use mathlib.Core.Path.{ap, _∙_}
 use borrow.Author.Needs.{needs}
+use Rattle.wide.specs.Words.{wideOf}
+use Rattle.wide.specs.Family.{behind}
+use Rattle.wide.proofs.Variables.{number-plain}
 use Rattle.wide.proofs.variable.direct.Statement.{statement}
 use Rattle.wide.proofs.variable.direct.Tie as tie
 
-small-requires : tie.Need-small-requires
-small-requires c κs = search needs
-
 returns : tie.Need-returns
-returns c = search (small-plain, not-true, needs)
-
-small-requires-2 : tie.Need-small-requires-2
-small-requires-2 c κs = search needs
+unfolding behind
+returns c = rw (c .before .if1 .taken) (c .near .ensures)
 
 returns-2 : tie.Need-returns-2
-returns-2 c = search (small-signed, not-false, needs)
-
-add-t5 : tie.Need-add-t5
-add-t5 c = search needs
-
-returns-3 : tie.Need-returns-3
-returns-3 c = search (high-signed, not-false, needs)
+returns-2 c = rw (c .before .if1 .left) (c .near2 .ensures ∙ ap wideOf (number-plain (c .before .before .args .b) (search needs)))
 
 pub direct-spec : {M : Type 1} → statement M
-direct-spec =
-    tie.close (tie.spec small-requires returns small-requires-2 returns-2 add-t5 returns-3)
+direct-spec = tie.close (tie.spec (λ c. search needs) (λ c κs. search needs) returns (λ c κs. search needs) returns-2)

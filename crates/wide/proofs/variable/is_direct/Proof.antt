@@ -1,32 +1,19 @@
--- `wide::variable::is_direct` meets its contract: a law of Variables for each way out. Assumes nothing.
-use borrow.Author.Tests.{not-true, not-false}
-use Rattle.wide.proofs.Variables.{direct-low, direct-plain, none-plain, direct-high, none-between}
+-- `wide::variable::is_direct` meets its contract: -124 is 124 before 0, and an unsigned number is not below 0. Assumes nothing.
+use mathlib.Core.Path.{ap, _∙_}
+use Prim.Native.Nat.{ℕ}
+use lib.Dec.{ltb}
 use borrow.Author.Needs.{needs}
+use Rattle.wide.specs.Words.{valueOf}
+use Rattle.wide.proofs.Nearness.{behind-zero}
 use Rattle.wide.proofs.variable.is_direct.Statement.{statement}
 use Rattle.wide.proofs.variable.is_direct.Tie as tie
 
-above-requires : tie.Need-above-requires
-above-requires c κs = search needs
-
 returns : tie.Need-returns
-returns c = search (direct-low, needs)
+returns c = rw (c .before .if1 .taken) (c .is-near .ensures)
 
 returns-2 : tie.Need-returns-2
-returns-2 c = search (direct-plain, needs)
-
-returns-3 : tie.Need-returns-3
-returns-3 c = search (none-plain, not-true, needs)
-
-above-requires-2 : tie.Need-above-requires-2
-above-requires-2 c κs = search needs
-
-returns-4 : tie.Need-returns-4
-returns-4 c = search (direct-high, not-false, needs)
-
-returns-5 : tie.Need-returns-5
-returns-5 c = search (none-between, not-false, needs)
+returns-2 c =
+    rw (c .before .if1 .left) (c .is-near2 .ensures ∙ ap (λ (x : ℕ). ltb x 248) (behind-zero (valueOf (c .before .before .args .w))))
 
 pub is-direct-spec : {M : Type 1} → statement M
-is-direct-spec =
-    tie.close
-    (tie.spec above-requires returns returns-2 returns-3 above-requires-2 returns-4 returns-5)
+is-direct-spec = tie.close (tie.spec (λ c κs. search needs) returns (λ c κs. search needs) returns-2)

@@ -1,8 +1,8 @@
--- `wide::variable::above` meets its contract. Assumes nothing.
+-- `wide::near::above` meets its contract. Assumes nothing.
 use borrow.Author.Needs.{needs}
-use Rattle.wide.proofs.Variables.{none-first, none-second, all-first}
-use Rattle.wide.proofs.variable.above.Statement.{statement}
-use Rattle.wide.proofs.variable.above.Tie as tie
+use Rattle.wide.proofs.Nearness.{none-first, none-second, all-first}
+use Rattle.wide.proofs.near.above.Statement.{statement}
+use Rattle.wide.proofs.near.above.Tie as tie
 
 returns : tie.Need-returns
 returns c = search (none-first, needs)

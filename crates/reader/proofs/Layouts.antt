@@ -1,0 +1,111 @@
+-- Laws of the words of a tree's rows: how many they are, where they end, and that they may be laid in parts, a holder's own row last.
+-- Assumes nothing.
+use mathlib.Core.Path.{_≡_, refl, sym, ap, _∙_}
+use Prim.Native.Nat.{ℕ, _+_, _*_, _≤_, _<_}
+use native.Mathlib.Nat.{add-zero}
+use native.Mathlib.Omega.{arith}
+use mathlib.Core.Bool.{Bool, true, false}
+use mathlib.Core.List.{List, [], _++_, append-nil}
+use lib.ListN.{length, length-append}
+use lib.Seq.{sets}
+use Rattle.lists.proofs.Sets.{sets-append}
+use Rattle.rows.specs.declared.row.Row.{Row}
+use Rattle.rows.specs.Table.{wordsPerRow, wordsOf, rowAt, lent}
+use Rattle.rows.specs.Kinds.{kindForeign, holderRow, declarationRow, foreignRow}
+use Rattle.rows.proofs.Rows.{row-sets-in, row-last}
+use Rattle.format.specs.Tree.{Tree, leaf, refer, hold, declare, Trees, none, more, size, sizes}
+use Rattle.format.specs.Layout.{layout, layouts, entries, grown}
+
+-- ---- how many words
+
+mutual
+  unfolding layout size wordsOf
+
+  pub length-layout : (t : Tree) (row : ℕ) (registry : List ℕ) → length (layout t row registry) ≡ wordsPerRow * size t
+  length-layout (leaf kind w0 w1 w2 w3) row registry = refl
+  length-layout (refer number) row registry = refl
+  length-layout (hold kind count ts) row registry = omega (arith, length-layouts ts false (row + 1) registry)
+  length-layout (declare count es t) row registry =
+      let h = length-layouts es true (row + 1) [] in
+      let k = length-layout t (row + 1 + sizes es) (entries es (row + 1) []) in
+      simp length-append (omega arith)
+
+  pub length-layouts : (ts : Trees) (grows : Bool) (row : ℕ) (registry : List ℕ) → length (layouts ts grows row registry) ≡ wordsPerRow * sizes ts
+  length-layouts none grows row registry = refl
+  length-layouts (more t ts) grows row registry =
+      let h = length-layout t row registry in
+      let k = length-layouts ts grows (row + size t) (grown grows registry row) in
+      simp length-append (omega arith)
+
+-- ---- the first row's end
+
+-- a tree has a row of its own
+pub size-pos : (t : Tree) → 0 < size t
+unfolding size
+size-pos (leaf kind w0 w1 w2 w3) = omega arith
+size-pos (refer number) = omega arith
+size-pos (hold kind count ts) = omega arith
+size-pos (declare count es t) = omega arith
+
+layout-end : (t : Tree) (row : ℕ) (registry : List ℕ) → rowAt (layout t row registry) 0 .end ≡ row + size t
+unfolding layout size wordsOf rowAt
+layout-end (leaf kind w0 w1 w2 w3) row registry = refl
+layout-end (refer number) row registry = refl
+layout-end (hold kind count ts) row registry = refl
+layout-end (declare count es t) row registry = refl
+
+-- it is the row behind all its rows
+pub laid-end : (table : List ℕ) (t : Tree) (row : ℕ) (registry : List ℕ) → row + size t ≤ lent table
+    → rowAt (sets table (wordsPerRow * row) (layout t row registry)) row .end ≡ row + size t
+laid-end table t row registry room =
+    let n = length-layout t row registry in
+    let p = size-pos t in
+    ap (λ (r : Row). r .end)
+    (rw add-zero at (row-sets-in table row (layout t row registry) 0 (omega arith) (omega arith)))
+    ∙ layout-end t row registry
+
+-- ---- laid in parts
+
+-- the words of n rows, and those behind them
+lay-two : (table : List ℕ) (row n : ℕ) (xs ys : List ℕ) → length xs ≡ wordsPerRow * n
+    → sets (sets table (wordsPerRow * row) xs) (wordsPerRow * (row + n)) ys ≡ sets table (wordsPerRow * row) (xs ++ ys)
+lay-two table row n xs ys h =
+    let e : wordsPerRow * (row + n) ≡ wordsPerRow * row + length xs = omega arith in
+    rw e (sym (sets-append table (wordsPerRow * row) xs ys))
+
+-- trees one behind the other
+pub lay-more : (table : List ℕ) (t : Tree) (ts : Trees) (grows : Bool) (row : ℕ) (registry : List ℕ)
+    → sets (sets table (wordsPerRow * row) (layout t row registry)) (wordsPerRow * (row + size t)) (layouts ts grows (row + size t) (grown grows registry row))
+    ≡ sets table (wordsPerRow * row) (layouts (more t ts) grows row registry)
+unfolding layout
+lay-more table t ts grows row registry =
+    lay-two table row (size t) (layout t row registry) (layouts ts grows (row + size t) (grown grows registry row)) (length-layout t row registry)
+
+-- a holder's row, when its children are there
+pub lay-hold : (table : List ℕ) (kind count : ℕ) (ts : Trees) (row : ℕ) (registry : List ℕ)
+    → sets (sets table (wordsPerRow * (row + 1)) (layouts ts false (row + 1) registry)) (wordsPerRow * row) (wordsOf (holderRow kind (row + (1 + sizes ts)) count))
+    ≡ sets table (wordsPerRow * row) (layout (hold kind count ts) row registry)
+unfolding layout
+lay-hold table kind count ts row registry =
+    row-last table row (holderRow kind (row + (1 + sizes ts)) count) (layouts ts false (row + 1) registry)
+
+-- a right foreign document's row, when its value is there
+pub lay-foreign : (table : List ℕ) (t : Tree) (row : ℕ) (registry : List ℕ)
+    → sets (sets table (wordsPerRow * (row + 1)) (layout t (row + 1) registry)) (wordsPerRow * row) (wordsOf (foreignRow (row + (1 + size t))))
+    ≡ sets table (wordsPerRow * row) (layout (hold kindForeign 0 (more t none)) row registry)
+unfolding layout size
+lay-foreign table t row registry =
+    row-last table row (foreignRow (row + (1 + size t))) (layout t (row + 1) registry) ∙ rw (add-zero, append-nil)
+
+-- a declaration's row, when its entries and its value are there
+pub lay-declare : (table : List ℕ) (count : ℕ) (es : Trees) (t : Tree) (row : ℕ) (registry : List ℕ)
+    → sets
+    (sets (sets table (wordsPerRow * (row + 1)) (layouts es true (row + 1) [])) (wordsPerRow * (row + 1 + sizes es)) (layout t (row + 1 + sizes es) (entries es (row + 1) [])))
+    (wordsPerRow * row) (wordsOf (declarationRow (row + (1 + (sizes es + size t))) count))
+    ≡ sets table (wordsPerRow * row) (layout (declare count es t) row registry)
+unfolding layout
+lay-declare table count es t row registry =
+    let E : List ℕ = layouts es true (row + 1) [] in
+    let T : List ℕ = layout t (row + 1 + sizes es) (entries es (row + 1) []) in
+    rw (lay-two table (row + 1) (sizes es) E T (length-layouts es true (row + 1) []))
+    (row-last table row (declarationRow (row + (1 + (sizes es + size t))) count) (E ++ T))

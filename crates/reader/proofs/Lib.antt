@@ -1,0 +1,11 @@
+-- Laws that belong to no one function.
+pub mod Answers
+pub mod Children
+pub mod Fills
+pub mod Growth
+pub mod Layouts
+pub mod Leaves
+pub mod Steps
+pub mod Views
+pub mod Walks
+pub mod Whole

@@ -1,0 +1,39 @@
+-- `reader::entry::entry_row` meets its contract. The invariant: `at` is the row that i ends lead to. Assumes nothing.
+use mathlib.Core.Path.{_≡_}
+use Prim.Native.Nat.{_-_, _≤_}
+use borrow.Author.Needs.{needs}
+use Rattle.reader.specs.Registry.{walk}
+use Rattle.reader.proofs.Walks.{walk-start, walk-next, walk-done, walk-lent}
+use Rattle.reader.proofs.entry.entry_row.Statement.{statement}
+use Rattle.reader.proofs.entry.entry_row.Tie as tie
+
+abbrev Inv-loop : tie.InvT-loop
+Inv-loop table first n row at₀ i₀ at i = (i ≤ n) × (at ≡ walk table first i)
+
+abbrev μ-loop : tie.MeasureT-loop
+μ-loop table first n row at₀ i₀ at i = n - i
+
+loop-holds : tie.Need-loop-holds Inv-loop μ-loop
+loop-holds c = search (walk-start, needs)
+
+end-at-requires : tie.Need-end-at-requires Inv-loop μ-loop
+end-at-requires c κs = search walk-lent
+
+number-requires : tie.Need-number-requires Inv-loop μ-loop
+number-requires c κs = search needs
+
+add-i : tie.Need-add-i Inv-loop μ-loop
+add-i c = search needs
+
+loop-less : tie.Need-loop-less Inv-loop μ-loop
+loop-less c = search needs
+
+loop-again : tie.Need-loop-again Inv-loop μ-loop
+loop-again c = search (walk-next, needs)
+
+returns : tie.Need-returns Inv-loop μ-loop
+returns c = search walk-done
+
+pub entry-row-spec : {M : Type 1} → statement M
+entry-row-spec =
+    tie.close (tie.spec Inv-loop μ-loop loop-holds end-at-requires number-requires add-i loop-less loop-again returns)

@@ -1,0 +1,87 @@
+-- What filling a table asks, and what it does. P is what a position reads as, Q what positions in a row read as; how they are read plays no
+-- part. Definitions only.
+use mathlib.Core.Path.{_≡_}
+use mathlib.Core.Bool.{Bool, true, false}
+use mathlib.Core.List.{List}
+use Prim.Native.Nat.{ℕ, _+_, _*_, _≤_}
+use lib.Seq.{sets}
+use Rattle.rows.specs.Table.{wordsPerRow, lent, limit}
+use Rattle.format.specs.declared.head.Children.{Children}
+use Rattle.format.specs.declared.head.Children.the-variants.{Plain, Keyed, Growing}
+use Rattle.format.specs.Tree.{Tree, leaf, Trees, none, size, sizes}
+use Rattle.format.specs.Value.{Reading, right, wrong, Run, ran, broke}
+use Rattle.format.specs.Layout.{layout, layouts}
+use Rattle.reader.specs.Registry.{walk, chain, Below}
+
+-- ---- a right reading: its tree, and the place behind it
+
+unfoldable pub Right : Reading → Type 0
+Right (right t next) = Unit {0}
+Right (wrong e place) = ⊥
+
+unfoldable pub treeOf : Reading → Tree
+treeOf (right t next) = t
+treeOf (wrong e place) = leaf 0 0 0 0 0
+
+unfoldable pub nextOf : Reading → ℕ
+nextOf (right t next) = next
+nextOf (wrong e place) = 0
+
+unfoldable pub Ran : Run → Type 0
+Ran (ran ts next) = Unit {0}
+Ran (broke e place) = ⊥
+
+unfoldable pub treesOf : Run → Trees
+treesOf (ran ts next) = ts
+treesOf (broke e place) = none
+
+unfoldable pub nextsOf : Run → ℕ
+nextsOf (ran ts next) = next
+nextsOf (broke e place) = 0
+
+-- ---- one position
+
+-- P is right, its rows from `row` on have room, and the k entries in force stand before them
+pub record Ready (P : Reading) (table : List ℕ) (row first k : ℕ) : Type 0 where
+  pub good : Right P
+  pub room : row + size (treeOf P) ≤ lent table
+  pub small : row + size (treeOf P) ≤ limit
+  pub below : Below table first k row
+
+-- its rows stand in the table; at' and row' are the place and the row behind it
+pub record Did (P : Reading) (table : List ℕ) (row first k : ℕ) (table' : List ℕ) (at' row' : ℕ) : Type 0 where
+  pub words : table' ≡ sets table (wordsPerRow * row) (layout (treeOf P) row (chain table first k))
+  pub place : at' ≡ nextOf P
+  pub past : row' ≡ row + size (treeOf P)
+
+-- ---- positions in a row, the first of them number i of what holds them, which has k entries in force around it
+
+-- "While entry i of a declaration is read, entries 0..i-1 of that declaration are in force and nothing outside it"
+abbrev pub inForce : Children → ℕ → ℕ → ℕ
+inForce Plain k i = k
+inForce Keyed k i = k
+inForce Growing k i = i
+
+abbrev pub grows : Children → Bool
+grows Plain = false
+grows Keyed = false
+grows Growing = true
+
+-- where they are entries, the last one in force ends at `row`
+pub record ReadyAll (Q : Run) (c : Children) (table : List ℕ) (row first k i : ℕ) : Type 0 where
+  pub good : Ran Q
+  pub room : row + sizes (treesOf Q) ≤ lent table
+  pub small : row + sizes (treesOf Q) ≤ limit
+  pub below : Below table first (inForce c k i) row
+  pub linked : (grows c ≡ true → walk table first (inForce c k i) ≡ row)
+
+pub record DidAll (Q : Run) (c : Children) (table : List ℕ) (row first k i : ℕ) (table' : List ℕ) (at' row' : ℕ) : Type 0 where
+  pub words : table' ≡ sets table (wordsPerRow * row) (layouts (treesOf Q) (grows c) row (chain table first (inForce c k i)))
+  pub place : at' ≡ nextsOf Q
+  pub past : row' ≡ row + sizes (treesOf Q)
+
+-- one row laid, for bytes that end at `next`
+pub record Laid (table : List ℕ) (row : ℕ) (words : List ℕ) (next : ℕ) (table' : List ℕ) (at' row' : ℕ) : Type 0 where
+  pub put : table' ≡ sets table (wordsPerRow * row) words
+  pub place : at' ≡ next
+  pub past : row' ≡ row + 1
