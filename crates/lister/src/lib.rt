@@ -1,6 +1,4 @@
 // The listing of a document, as the paper's program prints it.
-ghost use Prim.Native.Nat.{_<_};
-ghost use Rattle.rows.specs.Table.{lent};
 use format::Answer;
 use libc::STDOUT_FILENO;
 use rows::Row;
@@ -60,4 +58,15 @@ pub fn list(document: &[u8]) {
     } else {
         refused(answer);
     }
+}
+
+// The paper's listing program: a document of up to 16,384 bytes on standard input.
+pub fn list_input() {
+    let mut input = [0u8; 16385];
+    let n = io::read_full(0, &mut input);
+    if 16384 < n {
+        io::write_all(STDOUT_FILENO, b"input too long\n");
+        return;
+    }
+    list(&input[..n]);
 }
