@@ -53,7 +53,7 @@ markerOf b =
 abbrev pub part : List ℕ → ℕ → ℕ → List ℕ
 part s at stop = take (stop - at) (drop at s)
 
--- "4 huge: length, count or number above 16,777,215"
+-- "4 huge: length, count or number above 16,777,215"; the marker was looked at before, so `other` does not occur
 abbrev pub countOf : ℕ → Coded → Count
 countOf at (is n used) = cond (leb n limit) (Is n (at + used)) (Not why.Huge)
 countOf at short = Not why.Short

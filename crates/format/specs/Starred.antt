@@ -1,7 +1,7 @@
 -- The paper's starred cases that speak of reading, and the slips that it names. Assumes nothing: these are definitions.
-use Prim.Native.Nat.{ℕ, _-_, _*_}
+use Prim.Native.Nat.{ℕ, zero, suc, _*_}
 use mathlib.Core.List.{List, [], _∷_, _++_}
-use lib.ListN.{length, replicate}
+use lib.ListN.{replicate}
 use Rattle.rows.specs.Table.{wordsPerRow}
 use Rattle.format.specs.declared.refusal.Refusal.the-variants as why
 use Rattle.format.specs.declared.answer.Answer.{Answer}
@@ -18,8 +18,11 @@ pub record Case : Type 0 where
 abbrev pub dirty : ℕ → List ℕ
 dirty rows = replicate 2 7 ++ replicate (wordsPerRow * rows) 9
 
+abbrev readsInto : ℕ → List ℕ → ℕ → List ℕ → Case
+readsInto lent bytes n rows = record { bytes = bytes; table = dirty lent; says = Accepted n; rows = rows }
+
 abbrev reads : List ℕ → ℕ → List ℕ → Case
-reads bytes n rows = record { bytes = bytes; table = dirty 8; says = Accepted n; rows = rows }
+reads bytes n rows = readsInto 8 bytes n rows
 
 abbrev refused : List ℕ → Answer → Case
 refused bytes answer = record { bytes = bytes; table = dirty 8; says = answer; rows = [] }
@@ -30,6 +33,11 @@ full bytes lent needed = record { bytes = bytes; table = dirty lent; says = Full
 -- a row
 abbrev row : ℕ → ℕ → ℕ → ℕ → ℕ → ℕ → List ℕ
 row kind end w0 w1 w2 w3 = kind ∷ end ∷ w0 ∷ w1 ∷ w2 ∷ w3 ∷ []
+
+-- the same row n times
+abbrev times : ℕ → List ℕ → List ℕ
+times zero words = []
+times (suc n) words = words ++ times n words
 
 abbrev minusOne : ℕ
 minusOne = 0xffffffff
@@ -67,7 +75,7 @@ starred =
     ∷ refused (0xc0 ∷ 0x00 ∷ 0x00 ∷ 0x11 ∷ []) (Refused why.Char 0)
     ∷ []
 
--- "Slips that look right", and the order of refusals at one position
+-- "Slips that look right", the order of refusals at one position, and kinds that no starred case has
 unfoldable pub slips : List Case
 slips =
     -- "Taking a table that ran full inside a foreign body as a damaged body."
@@ -77,8 +85,11 @@ slips =
     ∷ refused (0x0d ∷ 0x0d ∷ 0x01 ∷ 0x44 ∷ 0x0d ∷ 0x0d ∷ 0x01 ∷ 0xc1 ∷ 0x02 ∷ []) (Refused why.NoEntry 7)
     -- "Leaving rows of an abandoned body behind the last used row."
     ∷ reads (0x0d ∷ 0x00 ∷ 0x03 ∷ 0xa2 ∷ 0x02 ∷ 0x02 ∷ []) 1 (row 16 1 3 3 2 0)
-    -- "at one position 9, then 2": 33 arrays of one with nothing behind them, and an empty body one level too deep
+    -- "in its value position all n are, and they alone": two entries outside are not seen
+    ∷ refused (0x0d ∷ 0x0d ∷ 0x02 ∷ 0x01 ∷ 0x02 ∷ 0x0d ∷ 0x0d ∷ 0x01 ∷ 0x00 ∷ 0xc2 ∷ []) (Refused why.NoEntry 9)
+    -- "at one position 9, then 2": 33 arrays of one with nothing behind them, and behind 32 an empty body one level too deep
     ∷ refused (replicate 33 0xa0) (Refused why.Deep 33)
+    ∷ readsInto 33 (replicate 32 0xa0 ++ (0x0d ∷ 0x00 ∷ 0x00 ∷ [])) 33 (times 32 (row 9 33 1 0 0 0) ++ row 16 33 35 0 9 0)
     -- "then 2, 3, 4, 2 for the body": a length cut short, one above the limit, one above what is there
     ∷ refused (0x08 ∷ 0xfb ∷ 0xff ∷ []) (Refused why.Short 0)
     ∷ refused (0x08 ∷ 0xfb ∷ 0x00 ∷ 0x00 ∷ 0x00 ∷ 0x01 ∷ []) (Refused why.Huge 0)
@@ -96,4 +107,12 @@ slips =
     -- "under the registry in force around it": `0d 0d 01 44 0d 00 01 c1`: accepted, four rows
     ∷ reads (0x0d ∷ 0x0d ∷ 0x01 ∷ 0x44 ∷ 0x0d ∷ 0x00 ∷ 0x01 ∷ 0xc1 ∷ []) 4
     (row 15 4 1 0 0 0 ++ row 4 2 5 0 0 0 ++ row 16 4 0 0 0 0 ++ row 14 4 0 1 0 0)
+    -- "A record key is a length and text, with no marker; a map key is a value position."
+    ∷ reads (0xb0 ∷ 0x01 ∷ 0x61 ∷ 0x01 ∷ []) 3 (row 10 3 1 0 0 0 ++ row 17 2 2 1 0 0 ++ row 2 3 0 0 0 0)
+    ∷ reads (0xb8 ∷ 0x80 ∷ 0x61 ∷ 0x01 ∷ []) 3 (row 11 3 1 0 0 0 ++ row 8 2 2 1 0 0 ++ row 2 3 0 0 0 0)
+    -- "float bodies of 2, 4, 8, 16, 32 bytes", "`0c` and a length: binary", "`c0` and 3 bytes: a char"
+    ∷ reads (0xa3 ∷ 0x03 ∷ 0x00 ∷ 0x7e ∷ 0x04 ∷ 0x00 ∷ 0x00 ∷ 0x80 ∷ 0x3f ∷ 0x0c ∷ 0x02 ∷ 0xff ∷ 0xfe ∷ 0xc0 ∷ 0xff ∷ 0xff ∷ 0x10 ∷ []) 5
+    (row 9 5 4 0 0 0 ++ row 7 2 2 2 0 0 ++ row 7 3 5 4 0 0 ++ row 12 4 11 2 0 0 ++ row 13 5 0x10ffff 0 0 0)
+    ∷ reads (0x07 ∷ replicate 32 0x41) 1 (row 7 1 1 32 0 0)
+    ∷ refused (0x06 ∷ replicate 15 0x41) (Refused why.Short 0)
     ∷ []

@@ -77,6 +77,7 @@ childrenOf Array = Plain
 childrenOf Record = Keyed
 childrenOf Map = Plain
 
+-- a key, by what stands at its place: a leaf or a refusal, and nothing else occurs
 abbrev pub keyed : List ℕ → Head → Reading
 keyed s (Leaf c next) = right (leafOf s c) next
 keyed s (Hold h n next) = wrong why.Marker next
@@ -153,7 +154,8 @@ step R s around at stop (Declare n next) = declaring n (run R Growing s 0 0 n ne
 step R s around at stop (Foreign place size) = framed place size (R (inForeign around) place (place + size))
 step R s around at stop (Refuse e place) = wrong e place
 
--- a value position with `levels` levels left, its own with them: "9 deep" where none is
+-- "elements, record values, map keys and values, declared entries, a declaration's value and a foreign body are one deeper than what holds
+-- them": a value position with `levels` levels left, its own with them; "9 deep" where none is
 unfoldable pub value : ℕ → List ℕ → ℕ → ℕ → ℕ → Reading
 value zero s around at stop = wrong why.Deep at
 value (suc levels) s around at stop = step (value levels s) s around at stop (headAt s at stop)

@@ -2,12 +2,12 @@
 use mathlib.Core.Path.{_≡_, refl, sym, ap, ap₂, _∙_}
 use mathlib.Core.Bool.{Bool, true, false}
 use mathlib.Core.List.{List}
-use Prim.Native.Nat.{ℕ, zero, suc, _+_, _-_, _%_, _^_, _≤_, _<_}
+use Prim.Native.Nat.{ℕ, suc, _+_, _-_, _%_, _^_, _≤_, _<_}
 use native.Mathlib.Omega.{arith}
 use native.Mathlib.Nat.{zero-add, add-zero, sub-zero, add-assoc}
-use lib.Dec.{ltb, eqb}
+use lib.Dec.{eqb}
 use lib.ListN.{length}
-use borrow.Author.Tests.{lt-ltb, le-ltb, eq-eqb, ne-eqb}
+use borrow.Author.Tests.{eq-eqb, ne-eqb}
 use mir.Syntax.{w64}
 use mir.Val.{Fits}
 use Rattle.rows.specs.Table.{limit}
@@ -19,10 +19,11 @@ use Rattle.format.specs.declared.head.Head.{Head}
 use Rattle.format.specs.declared.head.Head.the-variants.{Leaf, Hold, Refer, Declare, Foreign, Refuse}
 use Rattle.format.specs.declared.head.Children.{Children}
 use Rattle.format.specs.declared.head.Children.the-variants.{Plain, Keyed, Growing}
-use Rattle.format.specs.Tree.{Tree, Trees, none, more, size, sizes}
+use Rattle.format.specs.Tree.{Tree, refer, Trees, none, more, size, sizes}
 use Rattle.format.specs.Head.{headAt, keyAt}
-use Rattle.format.specs.Value.{Reading, right, wrong, Run, ran, broke, Reader, leafOf, kindOf, childCount, childrenOf, keyed, inTurn, child, ahead, follow, run, held, referred, closed, declaring, framedRight, framed, inForeign, step, value, ended, document}
+use Rattle.format.specs.Value.{Reading, right, wrong, Run, ran, broke, Reader, leafOf, kindOf, childCount, childrenOf, keyed, child, ahead, follow, run, held, closed, declaring, framedRight, framed, inForeign, value, ended, document}
 use Rattle.format.specs.Value as values
+use Rattle.format.proofs.Steps as clauses
 use Rattle.format.proofs.Heads.{hold-after, declare-after, foreign-after, foreign-within}
 use Rattle.format.proofs.Values.{leaf-size, ReadAt, RunAt, RightAt, RanAt, value-read, values-run, values-child}
 use Rattle.measure.specs.declared.measured.Measured.{Measured}
@@ -134,49 +135,36 @@ module _ (s : List ℕ) (at stop : ℕ) (h : Head) (head : h ≡ keyAt s at stop
 -- ---- a value position, by its head h and the levels left d
 
 pub value-deep : (s : List ℕ) (d k at stop : ℕ) → d ≡ 0 → Wrong why.Deep at ≡ measuredOf (value d s k at stop)
-unfolding value
-value-deep s d k at stop z = rw z
-
-value-step : (d : ℕ) (s : List ℕ) (k at stop : ℕ) → (d ≡ 0 → ⊥) → value d s k at stop ≡ step (value (d - 1) s) s k at stop (headAt s at stop)
-unfolding value
-value-step zero s k at stop f = absurd (f refl)
-value-step (suc d) s k at stop f =
-    let e : d ≡ suc d - 1 = omega arith in
-    ap (λ (m : ℕ). step (value m s) s k at stop (headAt s at stop)) e
+value-deep s d k at stop z = sym (ap measuredOf (clauses.value-deep d s k at stop z))
 
 module _ (s : List ℕ) (d k at stop : ℕ) (h : Head) (head : h ≡ headAt s at stop) (left : d ≡ 0 → ⊥) where
-  by-head : (g : Head) → h ≡ g → (m : Measured) → m ≡ measuredOf (step (value (d - 1) s) s k at stop g) → m ≡ measuredOf (value d s k at stop)
-  by-head g e m f = rw (value-step d s k at stop left, ← head, e) f
+  by : (x : Reading) → value (suc (d - 1)) s k at stop ≡ x → (m : Measured) → m ≡ measuredOf x → m ≡ measuredOf (value d s k at stop)
+  by x e m f = f ∙ ap measuredOf (sym (clauses.value-left d s k at stop x left e))
 
   pub value-leaf : (c : Content) (n : ℕ) → h ≡ Leaf c n → Right 1 n ≡ measuredOf (value d s k at stop)
-  unfolding step
-  value-leaf c n e = by-head (Leaf c n) e (Right 1 n) (ap (λ (z : ℕ). Right z n) (sym (leaf-size s c)))
+  value-leaf c n e =
+      by (right (leafOf s c) n) (clauses.value-leaf (d - 1) s k at stop h head c n e) (Right 1 n) (ap (λ (z : ℕ). Right z n) (sym (leaf-size s c)))
 
   pub value-refer : (i n : ℕ) → h ≡ Refer i n → i < k → Right 1 n ≡ measuredOf (value d s k at stop)
-  unfolding step size
-  value-refer i n e l = by-head (Refer i n) e (Right 1 n) (rw (lt-ltb i k l))
+  unfolding size
+  value-refer i n e l = by (right (refer i) n) (clauses.value-refer (d - 1) s k at stop h head i n e l) (Right 1 n) refl
 
   pub value-no-entry : (i n : ℕ) → h ≡ Refer i n → k ≤ i → Wrong why.NoEntry at ≡ measuredOf (value d s k at stop)
-  unfolding step
-  value-no-entry i n e l = by-head (Refer i n) e (Wrong why.NoEntry at) (rw (le-ltb i k l))
+  value-no-entry i n e l = by (wrong why.NoEntry at) (clauses.value-no-entry (d - 1) s k at stop h head i n e l) (Wrong why.NoEntry at) refl
 
   pub value-refuse : (x : Refusal) (p : ℕ) → h ≡ Refuse x p → Wrong x p ≡ measuredOf (value d s k at stop)
-  unfolding step
-  value-refuse x p e = by-head (Refuse x p) e (Wrong x p) refl
+  value-refuse x p e = by (wrong x p) (clauses.value-refuse (d - 1) s k at stop h head x p e) (Wrong x p) refl
 
   pub value-hold : (x : Holder) (c n : ℕ) → h ≡ Hold x c n → (m : Measured)
       → m ≡ measuredOf (held (kindOf x) c (run (value (d - 1) s) (childrenOf x) s k 0 (childCount x c) n stop)) → m ≡ measuredOf (value d s k at stop)
-  unfolding step
-  value-hold x c n e m f = by-head (Hold x c n) e m f
+  value-hold x c n e m f = by _ (clauses.value-hold (d - 1) s k at stop h head x c n e) m f
 
   pub value-declare : (c n : ℕ) → h ≡ Declare c n → (m : Measured)
       → m ≡ measuredOf (declaring c (run (value (d - 1) s) Growing s 0 0 c n stop) (value (d - 1) s) stop) → m ≡ measuredOf (value d s k at stop)
-  unfolding step
-  value-declare c n e m f = by-head (Declare c n) e m f
+  value-declare c n e m f = by _ (clauses.value-declare (d - 1) s k at stop h head c n e) m f
 
   pub value-foreign : (p z : ℕ) → h ≡ Foreign p z → (m : Measured) → m ≡ measuredOf (framed p z (value (d - 1) s (inForeign k) p (p + z))) → m ≡ measuredOf (value d s k at stop)
-  unfolding step
-  value-foreign p z e m f = by-head (Foreign p z) e m f
+  value-foreign p z e m f = by _ (clauses.value-foreign (d - 1) s k at stop h head p z e) m f
 
 -- ---- where a call starts
 
@@ -261,22 +249,16 @@ module _ (s : List ℕ) (d k p z : ℕ) (m : Measured) (read : m ≡ measuredOf 
 
 module _ (R : Reader) (s : List ℕ) (k i at stop : ℕ) (c : Children) (m : Measured) where
   pub child-plain : c ≡ Plain → m ≡ measuredOf (R k at stop) → m ≡ measuredOf (child c R s k i at stop)
-  unfolding child
-  child-plain e f = rw e f
+  child-plain e f = rw (e, clauses.child-plain R s k i at stop) f
 
   pub child-growing : c ≡ Growing → m ≡ measuredOf (R i at stop) → m ≡ measuredOf (child c R s k i at stop)
-  unfolding child
-  child-growing e f = rw e f
-
-  in-turn : c ≡ Keyed → (t : Bool) → eqb (i % 2) 0 ≡ t → m ≡ measuredOf (inTurn t R s k at stop) → m ≡ measuredOf (child c R s k i at stop)
-  unfolding child
-  in-turn e t g f = rw (e, g) f
+  child-growing e f = rw (e, clauses.child-entry R s k i at stop) f
 
   pub child-key : c ≡ Keyed → i % 2 ≡ 0 → m ≡ measuredOf (keyed s (keyAt s at stop)) → m ≡ measuredOf (child c R s k i at stop)
-  child-key e z f = in-turn e true (eq-eqb (i % 2) 0 z) f
+  child-key e z f = rw (e, clauses.child-key R s k i at stop z) f
 
   pub child-value : c ≡ Keyed → (i % 2 ≡ 0 → ⊥) → m ≡ measuredOf (R k at stop) → m ≡ measuredOf (child c R s k i at stop)
-  child-value e z f = in-turn e false (ne-eqb (i % 2) 0 z) f
+  child-value e z f = rw (e, clauses.child-value R s k i at stop z) f
 
 -- ---- the loop over children
 
@@ -316,11 +298,6 @@ follow-wrong : (x : Reading) (rest : ℕ → Run) (e : Refusal) (p : ℕ) → me
 follow-wrong (right t m) rest e p h = cc
 follow-wrong (wrong x q) rest e p h = cc
 
-run-next : (R : Reader) (c : Children) (s : List ℕ) (k i n m at stop : ℕ) → n ≡ suc m
-    → run R c s k i n at stop ≡ follow (child c R s k i at stop) (λ next. run R c s k (i + 1) m next stop)
-unfolding run
-run-next R c s k i n m at stop e = rw e
-
 pub kept-first : (R : Reader) (c : Children) (s : List ℕ) (k count at stop : ℕ) → at ≤ stop → Kept R c s k count at stop 0 0 at
 kept-first R c s k count at stop h = record { few = omega arith; before = omega arith; within = h; same = rw (sub-zero count) (plus-zero _) }
 
@@ -336,8 +313,7 @@ module _ (s : List ℕ) (d : ℕ) (c : Children) (k count at stop i rows place :
   one-more : run (value d s) c s k i (count - i) place stop
       ≡ follow (child c (value d s) s k i place stop) (λ next. run (value d s) c s k (i + 1) (count - (i + 1)) next stop)
   one-more =
-      let e : count - i ≡ suc (count - (i + 1)) = omega arith in
-      run-next (value d s) c s k i (count - i) (count - (i + 1)) place stop e
+      clauses.run-left (value d s) c s k i count place stop _ turn (clauses.run-next (value d s) c s k i (count - (i + 1)) place stop)
 
   child-bound : (r n : ℕ) → m ≡ Right r n → (place + r ≤ n) × (n ≤ stop)
   child-bound r n e = read-bound place stop (child c (value d s) s k i place stop) (values-child d c s k i place stop) r n (cc)

@@ -22,71 +22,6 @@ use Rattle.reader.specs.Ready.{Right, treeOf, nextOf, Ran, treesOf, next
 
 -- ---- a value position, by its head
 
-pub value-deep : (levels : ℕ) (s : List ℕ) (k at stop : ℕ) → Right (value levels s k at stop) → 0 < levels
-unfolding value Right
-value-deep zero s k at stop h = absurd h
-value-deep (suc levels) s k at stop h = omega arith
-
-value-is : (levels : ℕ) (s : List ℕ) (k at stop : ℕ) (h r : Head) → Right (value levels s k at stop) → r ≡ headAt s at stop → r ≡ h
-    → value levels s k at stop ≡ step (value (levels - 1) s) s k at stop h
-unfolding value Right
-value-is zero s k at stop h r good p q = absurd good
-value-is (suc levels) s k at stop h r good p q =
-    let e : suc levels - 1 ≡ levels = omega arith in
-    rw e (ap (step (value levels s) s k at stop) (sym p ∙ q))
-
-module _ (levels : ℕ) (s : List ℕ) (k at stop : ℕ) (good : Right (value levels s k at stop)) (r : Head) (stands : r ≡ headAt s at stop) where
-  pub value-leaf : (c : Content) (next : ℕ) → r ≡ Leaf c next → value levels s k at stop ≡ right (leafOf s c) next
-  unfolding step
-  value-leaf c next e = value-is levels s k at stop (Leaf c next) r good stands e
-
-  pub value-hold : (h : Holder) (n next : ℕ) → r ≡ Hold h n next
-      → value levels s k at stop ≡ held (kindOf h) n (run (value (levels - 1) s) (childrenOf h) s k 0 (childCount h n) next stop)
-  unfolding step
-  value-hold h n next e = value-is levels s k at stop (Hold h n next) r good stands e
-
-  pub value-refer : (n next : ℕ) → r ≡ Refer n next → value levels s k at stop ≡ referred (ltb n k) n at next
-  unfolding step
-  value-refer n next e = value-is levels s k at stop (Refer n next) r good stands e
-
-  pub value-declare : (n next : ℕ) → r ≡ Declare n next
-      → value levels s k at stop ≡ declaring n (run (value (levels - 1) s) Growing s 0 0 n next stop) (value (levels - 1) s) stop
-  unfolding step
-  value-declare n next e = value-is levels s k at stop (Declare n next) r good stands e
-
-  pub value-foreign : (place size : ℕ) → r ≡ Foreign place size
-      → value levels s k at stop ≡ framed place size (value (levels - 1) s (inForeign k) place (place + size))
-  unfolding step
-  value-foreign place size e = value-is levels s k at stop (Foreign place size) r good stands e
-
-  pub value-never : (e : Refusal) (place : ℕ) → r ≡ Refuse e place → ⊥
-  unfolding step Right
-  value-never e place q = subst Right (value-is levels s k at stop (Refuse e place) r good stands q) good
-
--- ---- a child, by how the children are read
-
-pub child-plain : (R : Reader) (s : List ℕ) (k i at stop : ℕ) → child Plain R s k i at stop ≡ R k at stop
-unfolding child
-child-plain R s k i at stop = refl
-
-pub child-growing : (R : Reader) (s : List ℕ) (k i at stop : ℕ) → child Growing R s k i at stop ≡ R i at stop
-unfolding child
-child-growing R s k i at stop = refl
-
--- a key, and behind it its value
-pub child-key : (R : Reader) (s : List ℕ) (k i at stop : ℕ) → i % 2 ≡ 0 → child Keyed R s k i at stop ≡ keyed s (keyAt s at stop)
-unfolding child
-child-key R s k i at stop e = rw (eq-eqb (i % 2) 0 e)
-
-pub child-keyed : (R : Reader) (s : List ℕ) (k i at stop : ℕ) → (i % 2 ≡ 0 → ⊥) → child Keyed R s k i at stop ≡ R k at stop
-unfolding child
-child-keyed R s k i at stop h = rw (ne-eqb (i % 2) 0 h)
-
-pub key-leaf : (s : List ℕ) (at stop next : ℕ) (r : Head) (c : Content) → r ≡ keyAt s at stop → r ≡ Leaf c next → keyed s (keyAt s at stop) ≡ right (leafOf s c) next
-key-leaf s at stop next r c p q = ap (keyed s) (sym p ∙ q)
-
--- ---- a holder and its children
-
 pub record Held (kind count : ℕ) (Q : Run) : Type 0 where
   pub good : Ran Q
   pub is : treeOf (held kind count Q) ≡ hold kind count (treesOf Q)
@@ -141,18 +76,6 @@ pub framed-whole : (place size : ℕ) (R : Reading) → Right R → nextOf R ≡
 unfolding Right treeOf nextOf
 framed-whole place size (right t next) good e = ap (λ (b : Bool). framedRight b t place size) (eq-eqb next (place + size) e)
 framed-whole place size (wrong why at) good e = absurd good
-
-pub framed-extra : (place size : ℕ) (R : Reading) → Right R → (nextOf R ≡ place + size → ⊥)
-    → framed place size R ≡ right (leaf kindForeign place size (refusalNumber why.Extra) 0) (place + size)
-unfolding Right nextOf
-framed-extra place size (right t next) good ne = ap (λ (b : Bool). framedRight b t place size) (ne-eqb next (place + size) ne)
-framed-extra place size (wrong why at) good ne = absurd good
-
-pub framed-wrong : (place size : ℕ) (R : Reading) (e : Refusal) (p : ℕ) → R ≡ wrong e p
-    → framed place size R ≡ right (leaf kindForeign place size (refusalNumber e) 0) (place + size)
-framed-wrong place size R e p q = ap (framed place size) q
-
--- ---- positions in a row: the first, and those behind it
 
 pub record Followed (P : Reading) (F : ℕ → Run) : Type 0 where
   pub good : Right P
