@@ -1,17 +1,17 @@
--- `line::bytes` meets its contract: the end stays within the buffer. Assumes nothing.
+-- `line::each` meets its contract: the end stays within the buffer. Assumes nothing.
 use mathlib.Core.Path.{_≡_}
 use Prim.Native.Nat.{_-_, _≤_}
 use lib.ListN.{length}
 use Rattle.io.specs.Counts.{Counts}
 use borrow.Author.Needs.{needs}
-use Rattle.line.proofs.bytes.Statement.{statement}
-use Rattle.line.proofs.bytes.Tie as tie
+use Rattle.line.proofs.each.Statement.{statement}
+use Rattle.line.proofs.each.Tie as tie
 
 abbrev Inv-loop : tie.InvT-loop
-Inv-loop out₀ at text end₀ i₀ out end i = (i ≤ length text) × (length out ≡ length out₀) × Counts end out
+Inv-loop out₀ at text hex end₀ i₀ out end i = (i ≤ length text) × (length out ≡ length out₀) × Counts end out
 
 abbrev μ-loop : tie.MeasureT-loop
-μ-loop out₀ at text end₀ i₀ out end i = length text - i
+μ-loop out₀ at text hex end₀ i₀ out end i = length text - i
 
 within-requires : tie.Need-within-requires Inv-loop μ-loop
 within-requires c κs = search needs
@@ -19,11 +19,11 @@ within-requires c κs = search needs
 loop-holds : tie.Need-loop-holds Inv-loop μ-loop
 loop-holds c = search needs
 
-shared-slice-read-byte : tie.Need-shared-slice-read-byte Inv-loop μ-loop
-shared-slice-read-byte c = search needs
+shared-slice-read-put : tie.Need-shared-slice-read-put Inv-loop μ-loop
+shared-slice-read-put c = search needs
 
-byte-requires : tie.Need-byte-requires Inv-loop μ-loop
-byte-requires c κs = search needs
+put-requires : tie.Need-put-requires Inv-loop μ-loop
+put-requires c κs = search needs
 
 add-i : tie.Need-add-i Inv-loop μ-loop
 add-i c = search needs
@@ -40,16 +40,16 @@ same-length c = search needs
 returns : tie.Need-returns Inv-loop μ-loop
 returns c = search needs
 
-pub bytes-spec : {M : Type 1} → statement M
-bytes-spec =
+pub each-spec : {M : Type 1} → statement M
+each-spec =
     tie.close
     (tie.spec
     Inv-loop
     μ-loop
     within-requires
     loop-holds
-    shared-slice-read-byte
-    byte-requires
+    shared-slice-read-put
+    put-requires
     add-i
     loop-less
     loop-again
