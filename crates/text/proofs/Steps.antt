@@ -54,6 +54,12 @@ plain s i r h p =
     let e = lead-starts (getD s i 0) 0 0 0 (drop (suc i) s) (sym (lead-at 0 (getD s i 0) (omega arith))) in
     found s i (i + 1) r (omega arith) (omega arith) (rw (k, drop-cons s i 0 h) e)
 
+-- two such bytes
+pub plain-two : (s : List ℕ) (i : ℕ) → Reached s i → 1 < length s - i → getD s i 0 < 0x80 → getD s (i + 1) 0 < 0x80 → Reached s (i + 2)
+plain-two s i r h p q =
+    let k : i + 1 + 1 ≡ i + 2 = omega arith in
+    rw (← k) (plain s (i + 1) (plain s i r (omega arith) p) (omega arith) q)
+
 pub no-lead : (s : List ℕ) (i : ℕ) (l : Lead) → Reached s i → i < length s → l ≡ leadOf (getD s i 0) → l ≡ Never → IllFormed i ≡ textOf s
 no-lead s i l r h e q = lost s i r h (rw (drop-cons s i 0 h) (lead-never (getD s i 0) (drop (suc i) s) (sym e ∙ q)))
 

@@ -1,19 +1,25 @@
--- `text::check` meets its contract: before each sequence, the walk from there on gives the answer for the whole (Reached); before each
--- continuation byte, the sequence stands exactly when what is left of it fits (Passing). Assumes nothing.
-use Prim.Native.Nat.{_-_}
+-- `text::check` meets its contract: before each sequence, and among plain bytes, the walk from there on gives the
+-- answer for the whole (Reached); before each continuation byte, the sequence stands exactly when what is left of it fits (Passing). Assumes nothing.
+use Prim.Native.Nat.{_-_, _≤_}
 use borrow.Author.Needs.{needs}
-use borrow.Author.Tests.{ltb-false}
+use borrow.Author.Tests.{leb-false, ltb-false}
 use lib.ListN.{length}
 use mathlib.Core.Logic.{⊎-elim}
-use Rattle.text.proofs.Steps.{Reached, Passing, start, at-end, plain, no-lead, lead, turn, whole, cut, too-low, too-high}
+use Rattle.text.proofs.Steps.{Reached, Passing, start, at-end, plain, plain-two, no-lead, lead, turn, whole, cut, too-low, too-high}
 use Rattle.text.proofs.check.Statement.{statement}
 use Rattle.text.proofs.check.Tie as tie
 
 abbrev Inv-loop : tie.InvT-loop
-Inv-loop s first b at₀ left₀ low₀ high₀ at left low high = Passing s first left low high at
+Inv-loop s first₀ first = (first₀ ≤ first) × Reached s first
 
 abbrev μ-loop : tie.MeasureT-loop
-μ-loop s first b at₀ left₀ low₀ high₀ at left low high = left
+μ-loop s first₀ first = length s - first
+
+abbrev Inv-loop2 : tie.InvT-loop2
+Inv-loop2 s first b left₀ low₀ high₀ at₀ left low high at = Passing s first left low high at
+
+abbrev μ-loop2 : tie.MeasureT-loop2
+μ-loop2 s first b left₀ low₀ high₀ at₀ left low high at = left
 
 abbrev Inv-sequences : tie.InvT-sequences
 Inv-sequences s first₀ first = Reached s first
@@ -27,13 +33,26 @@ check-spec =
     (tie.spec
     Inv-loop
     μ-loop
+    Inv-loop2
+    μ-loop2
     Inv-sequences
     μ-sequences
     (λ c. search start)
+    (λ c. search needs)
+    (λ c. search needs)
+    (λ c. search needs)
+    (λ c. search needs)
+    (λ c. search needs)
+    (λ c. search needs)
+    (λ c. search needs)
+    (λ c. search (plain-two, leb-false, needs))
     (λ c. search at-end)
     (λ c. search needs)
     (λ c. search needs)
+    (λ c. search needs)
+    (λ c. search plain)
     (λ c κs. search needs)
+    (λ c. search needs)
     (λ c. search needs)
     (λ c. search needs)
     (λ c. search lead)
@@ -44,8 +63,6 @@ check-spec =
     (λ c. search (turn, ltb-false))
     (λ c. search needs)
     (λ c. search whole)
-    (λ c. search needs)
-    (λ c. search plain)
     (λ c. search no-lead)
-    (λ c. search cut)
-    (λ c. ⊎-elim (λ w. search too-low) (λ w. search too-high) (c .if4 .came)))
+    (λ c. search (cut, c .before .before .before .before .before .before .before .before .before .before .before .loop .inv .1))
+    (λ c. ⊎-elim (λ w. search too-low) (λ w. search too-high) (c .if6 .came)))
