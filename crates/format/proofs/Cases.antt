@@ -1,7 +1,7 @@
 -- The starred cases and the slips hold, by computation: one list and one statement. Assumes nothing.
 use Prim.Native.Nat.{ℕ, _-_}
 use mathlib.Core.Path.{_≡_, refl}
-use mathlib.Core.List.{List, [], _∷_, _++_, map}
+use mathlib.Core.List.{List, _++_, map}
 use lib.ListN.{length, replicate}
 use Rattle.lists.specs.Zeroed.{zeroed}
 use Rattle.wide.specs.Words.{whole, wideOf}

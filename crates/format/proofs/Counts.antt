@@ -1,31 +1,28 @@
 -- Numbers of the families at a place: in the marker itself, behind it, and as the variable integer's reader finds them. Assumes nothing.
-use Prim.Native.Nat.{ℕ, zero, suc, _+_, _-_, _*_, _%_, _^_, _≤_, _<_}
+use Prim.Native.Nat.{ℕ, suc, _+_, _-_, _*_, _%_, _^_, _≤_, _<_}
 use mathlib.Core.Path.{_≡_, _∙_, sym, ap, ap₂, refl, subst}
 use mathlib.Core.Bool.{Bool, true, false, cond}
-use mathlib.Core.List.{List, [], _∷_, _++_}
-use native.Mathlib.Nat.{mod-eq-of-lt, le-trans}
+use mathlib.Core.List.{List, [], _∷_}
+use native.Mathlib.Nat.{mod-eq-of-lt}
 use native.Mathlib.Omega.{arith}
 use lib.ListN.{length, getD, take, drop, length-drop}
-use lib.Seq.{drop-cons, length-take-le, take-all}
-use lib.Dec.{leb, ltb, eqb, lit≤}
+use lib.Seq.{drop-cons, length-take-le}
+use lib.Dec.{leb, eqb}
 use borrow.Author.Tests.{le-leb, lt-leb, lt-ltb, le-ltb, leb-true, leb-false, eq-eqb}
 use Rattle.wide.specs.declared.wide.Wide.{Wide}
-use Rattle.wide.specs.declared.answer.Read.{Read}
 use Rattle.wide.specs.declared.answer.Read.the-variants as read
 use Rattle.wide.specs.Words.{whole, valueOf, wideOf}
-use Rattle.wide.specs.Family.{Run, behind, hasByte, numberOf, Family, Coded, is, short, other, longer, unmarked, marked, coded}
+use Rattle.wide.specs.Family.{Run, behind, hasByte, numberOf, Coded, is, short, other, longer, unmarked, marked, coded}
 use Rattle.wide.specs.Members.{run, none, unsigned, headed, keyLength}
 use Rattle.wide.specs.Answer.{readAs, readOf}
 use Rattle.wide.proofs.Numbers.{Bytes, bytes-all, bytes-take, bytes-drop}
-use Rattle.wide.proofs.Wides.{Words, value-wide}
+use Rattle.wide.proofs.Wides.{value-wide}
 use Rattle.wide.proofs.Runs.{bytes-whole}
 use Rattle.wide.proofs.Families.{cond-yes, cond-no, Takes, coded-takes, Reads, reads}
 use Rattle.wide.proofs.Sound.{sound-variable}
 use Rattle.wide.proofs.Variables.{none-before, every-byte}
 use Rattle.rows.specs.Table.{limit}
-use Rattle.format.specs.declared.refusal.Refusal.{Refusal}
 use Rattle.format.specs.declared.refusal.Refusal.the-variants as why
-use Rattle.format.specs.declared.head.Count.{Count}
 use Rattle.format.specs.declared.head.Count.the-variants.{Is, Not}
 use Rattle.format.specs.Head.{part, countOf, countAt}
 

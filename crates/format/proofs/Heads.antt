@@ -31,7 +31,7 @@ use Rattle.format.specs.declared.head.Holder.{Holder}
 use Rattle.format.specs.declared.head.Holder.the-variants.{Array, Record, Map}
 use Rattle.format.specs.declared.head.Head.{Head}
 use Rattle.format.specs.declared.head.Head.the-variants.{Leaf, Hold, Refer, Declare, Foreign, Refuse}
-use Rattle.format.specs.Head.{Marker, constant, float, text, array, entries, map, binary, special, nothing, signedBody, unsignedBody, small, char, reference, markerOf, part, countOf, countAt, bodied, spelled, textBody, codepoint, charBody, charHead, floatSize, textHead, keyHead, binaryHead, holderHead, referHead, declareHead, foreignHead, specialHead, stands, headAt, keyAt}
+use Rattle.format.specs.Head.{Marker, constant, float, text, array, entries, map, binary, special, nothing, signedBody, unsignedBody, small, char, reference, markerOf, part, countOf, countAt, bodied, spelled, textBody, codepoint, charBody, charHead, floatSize, textHead, binaryHead, holderHead, referHead, declareHead, foreignHead, specialHead, stands, headAt, keyAt}
 
 -- ---- a length, count or number
 
@@ -153,7 +153,7 @@ text-case P s at kind place size stop f g =
     (λ _. g why.Short)
 
 module _ (s : List ℕ) (at stop : ℕ) where
-  text-stood : (c : Count) → Counted at stop c → Stood s at stop (textHead s at stop c)
+  text-stood : (c : Count) → Counted at stop c → Stood s at stop (textHead kindText s at stop c)
   text-stood (Is n place) k =
       text-case (Stood s at stop) s at kindText place n stop
       (λ l w.
@@ -363,7 +363,7 @@ KeyStood s at stop (Declare n next) = ⊥
 KeyStood s at stop (Foreign place size) = ⊥
 KeyStood s at stop (Refuse e place) = place ≡ at
 
-key-counted : (s : List ℕ) (at stop : ℕ) (c : Count) → Counted at stop c → KeyStood s at stop (keyHead s at stop c)
+key-counted : (s : List ℕ) (at stop : ℕ) (c : Count) → Counted at stop c → KeyStood s at stop (textHead kindKey s at stop c)
 key-counted s at stop (Is n place) k =
     text-case (KeyStood s at stop) s at kindKey place n stop
     (λ l w.

@@ -4,7 +4,7 @@ use mathlib.Core.Path.{_≡_, _∙_, sym, ap, ap₂, refl}
 use mathlib.Core.Bool.{Bool, true, false, not, cond, _&&_}
 use mathlib.Core.List.{List, [], _∷_}
 use native.Mathlib.Omega.{arith}
-use lib.ListN.{length, getD, take, drop, length-drop}
+use lib.ListN.{length, getD, take, drop}
 use lib.Seq.{drop-cons}
 use lib.Dec.{leb, ltb, eqb}
 use borrow.Author.Tests.{le-leb, lt-leb, lt-ltb, le-ltb, eq-eqb, ne-eqb}
@@ -12,25 +12,22 @@ use Rattle.wide.specs.declared.wide.Wide.{Wide}
 use Rattle.wide.specs.Number.{number}
 use Rattle.wide.specs.Words.{valueOf}
 use Rattle.wide.specs.Family.{behind}
-use Rattle.wide.specs.Members.{run, none, keyLength, textLength, binaryLength, arrayCount, recordCount, mapCount, referenceNumber, declarationCount, foreignLength}
+use Rattle.wide.specs.Members.{run, none, keyLength, declarationCount, foreignLength}
 use Rattle.wide.proofs.Numbers.{either}
 use Rattle.wide.proofs.Families.{cond-yes, cond-no}
 use Rattle.text.specs.declared.answer.Text.{Text}
 use Rattle.text.specs.declared.answer.Text.the-variants.{WellFormed, IllFormed}
 use Rattle.text.specs.Check.{textOf}
 use Rattle.rows.specs.Table.{limit}
-use Rattle.rows.specs.Kinds.{kindFloat, kindText, kindKey}
-use Rattle.format.specs.declared.refusal.Refusal.{Refusal}
+use Rattle.rows.specs.Kinds.{kindFloat, kindText}
 use Rattle.format.specs.declared.refusal.Refusal.the-variants as why
-use Rattle.format.specs.declared.head.Count.{Count}
-use Rattle.format.specs.declared.head.Count.the-variants.{Is, Not}
+use Rattle.format.specs.declared.head.Count.the-variants.{Is}
 use Rattle.format.specs.declared.head.Content.{Content}
 use Rattle.format.specs.declared.head.Content.the-variants as holds
-use Rattle.format.specs.declared.head.Holder.{Holder}
 use Rattle.format.specs.declared.head.Holder.the-variants.{Array, Record, Map}
 use Rattle.format.specs.declared.head.Head.{Head}
 use Rattle.format.specs.declared.head.Head.the-variants.{Leaf, Hold, Refer, Declare, Foreign, Refuse}
-use Rattle.format.specs.Head.{Marker, constant, float, text, array, entries, map, binary, special, nothing, signedBody, unsignedBody, small, char, reference, markerOf, countAt, bodied, spelled, textBody, codepoint, charBody, charHead, floatSize, integerHead, textHead, keyHead, binaryHead, holderHead, referHead, declareHead, foreignHead, specialHead, stands, headAt, keyAt}
+use Rattle.format.specs.Head.{Marker, constant, float, text, array, entries, map, binary, special, nothing, signedBody, unsignedBody, small, char, reference, markerOf, countAt, bodied, spelled, textBody, codepoint, charBody, charHead, floatSize, integerHead, textHead, binaryHead, holderHead, referHead, declareHead, foreignHead, specialHead, stands, headAt}
 use Rattle.format.proofs.Counts.{count-behind, count-behind-two, count-alone}
 use Rattle.format.proofs.Markers as marker
 
@@ -120,20 +117,6 @@ module _ (s : List ℕ) (at stop : ℕ) where
     pub char-bad : (t : Bool) → t ≡ codepoint (x + 256 * (y + 256 * z)) → t ≡ false → Refuse why.Char at ≡ charHead s at stop
     char-bad t a b = sym (char-there ∙ cond-no (codepoint (x + 256 * (y + 256 * z))) _ _ (sym a ∙ b))
 
--- ---- heads by their counts
-
-pub text-is : (s : List ℕ) (at stop n next : ℕ) (c : Count) (r : Head) → c ≡ Is n next → r ≡ textBody s at kindText next n stop → r ≡ textHead s at stop c
-text-is s at stop n next c r e g = g ∙ ap (textHead s at stop) (sym e)
-
-pub key-is : (s : List ℕ) (at stop n next : ℕ) (c : Count) (r : Head) → c ≡ countAt keyLength s at stop → c ≡ Is n next → r ≡ textBody s at kindKey next n stop
-    → r ≡ keyAt s at stop
-unfolding keyAt
-key-is s at stop n next c r a e g = g ∙ ap (keyHead s at stop) (sym e ∙ a)
-
-pub key-not : (s : List ℕ) (at stop : ℕ) (c : Count) (x : Refusal) → c ≡ countAt keyLength s at stop → c ≡ Not x → Refuse x at ≡ keyAt s at stop
-unfolding keyAt
-key-not s at stop c x a e = ap (keyHead s at stop) (sym e ∙ a)
-
 -- ---- what stands at a position
 
 pub head-missing : (s : List ℕ) (at stop : ℕ) → stop ≤ at → Refuse why.Short at ≡ headAt s at stop
@@ -182,10 +165,10 @@ module _ (s : List ℕ) (at stop : ℕ) (l : at < stop) where
 
   -- the number stands behind the marker
   module _ (h : stop ≤ length s) where
-    pub head-long-text : (b : ℕ) (r : Head) → b ≡ getD s at 0 → b ≡ 8 → r ≡ textHead s at stop (countAt keyLength s (at + 1) stop) → r ≡ headAt s at stop
+    pub head-long-text : (b : ℕ) (r : Head) → b ≡ getD s at 0 → b ≡ 8 → r ≡ textHead kindText s at stop (countAt keyLength s (at + 1) stop) → r ≡ headAt s at stop
     unfolding stands markerOf behind
     head-long-text b r e g d =
-        d ∙ ap (textHead s at stop) (sym (count-behind (run 0x80 32 1) 0x08 s at stop l h (sym e ∙ g) refl)) ∙ by text (ap markerOf (sym e ∙ g))
+        d ∙ ap (textHead kindText s at stop) (sym (count-behind (run 0x80 32 1) 0x08 s at stop l h (sym e ∙ g) refl)) ∙ by text (ap markerOf (sym e ∙ g))
 
     pub head-binary : (b : ℕ) (r : Head) → b ≡ getD s at 0 → b ≡ 12 → r ≡ binaryHead at stop (countAt keyLength s (at + 1) stop) → r ≡ headAt s at stop
     unfolding stands markerOf behind
@@ -217,8 +200,8 @@ module _ (s : List ℕ) (at stop : ℕ) (l : at < stop) where
     unfolding stands
     head-text b r e g f d =
         let n : b - 127 ≡ 1 + (getD s at 0 - 0x80) = omega arith in
-        d ∙ ap (λ (x : ℕ). textHead s at stop (Is x (at + 1))) n
-        ∙ ap (textHead s at stop) (sym (count-alone 0x80 32 1 (0x08 ∷ []) s at stop l h (omega arith) (omega arith) (omega arith) (omega arith)))
+        d ∙ ap (λ (x : ℕ). textHead kindText s at stop (Is x (at + 1))) n
+        ∙ ap (textHead kindText s at stop) (sym (count-alone 0x80 32 1 (0x08 ∷ []) s at stop l h (omega arith) (omega arith) (omega arith) (omega arith)))
         ∙ by text (marker.is-text (getD s at 0) (omega arith) (omega arith))
 
     pub head-array : (b : ℕ) → b ≡ getD s at 0 → 160 ≤ b → b < 176 → Hold Array (b - 159) (at + 1) ≡ headAt s at stop

@@ -7,7 +7,6 @@ use lib.Seq.{sets}
 use lib.Dec.{leb}
 use Rattle.lists.specs.Zeroed.{zeroed}
 use Rattle.rows.specs.Table.{lent, limit}
-use Rattle.format.specs.declared.refusal.Refusal.{Refusal}
 use Rattle.format.specs.declared.answer.Answer.{Answer}
 use Rattle.format.specs.declared.answer.Answer.the-variants.{Accepted, TooLong, Refused, Full}
 use Rattle.format.specs.Refusal.{numberOf as refusalNumber}

@@ -2,7 +2,7 @@
 use Prim.Native.Nat.{ℕ, _+_, _-_}
 use mathlib.Core.Bool.{Bool, true, false, not, cond, _&&_}
 use mathlib.Core.List.{List, [], _∷_}
-use lib.ListN.{length, getD, take, drop}
+use lib.ListN.{getD, take, drop}
 use lib.Dec.{ltb, leb, eqb}
 use Rattle.wide.specs.Number.{number}
 use Rattle.wide.specs.Body.{sizeAt}
@@ -12,8 +12,7 @@ use Rattle.text.specs.declared.answer.Text.{Text}
 use Rattle.text.specs.declared.answer.Text.the-variants.{WellFormed, IllFormed}
 use Rattle.text.specs.Check.{textOf}
 use Rattle.rows.specs.Table.{limit}
-use Rattle.rows.specs.Kinds.{kindFloat, kindText, kindBinary, kindKey, kindArray, kindRecord, kindMap}
-use Rattle.format.specs.declared.refusal.Refusal.{Refusal}
+use Rattle.rows.specs.Kinds.{kindFloat, kindText, kindBinary, kindKey}
 use Rattle.format.specs.declared.refusal.Refusal.the-variants as why
 use Rattle.format.specs.declared.head.Count.{Count}
 use Rattle.format.specs.declared.head.Count.the-variants.{Is, Not}
@@ -96,35 +95,30 @@ floatSize b = getD (2 ∷ 4 ∷ 8 ∷ 16 ∷ 32 ∷ []) (b - 0x03) 0
 abbrev pub integerHead : ℕ → ℕ → ℕ → Bool → Head
 integerHead at stop rank signed = bodied at (holds.Integer signed (at + 1) (sizeAt rank)) (at + 1) (sizeAt rank) stop
 
-abbrev pub textHead : List ℕ → ℕ → ℕ → Count → Head
-textHead s at stop (Is n place) = textBody s at kindText place n stop
-textHead s at stop (Not e) = Refuse e at
+-- what a length, count or number is followed by, or its refusal
+abbrev pub withCount : ℕ → Count → (ℕ → ℕ → Head) → Head
+withCount at (Is n next) rest = rest n next
+withCount at (Not e) rest = Refuse e at
 
-abbrev pub keyHead : List ℕ → ℕ → ℕ → Count → Head
-keyHead s at stop (Is n place) = textBody s at kindKey place n stop
-keyHead s at stop (Not e) = Refuse e at
+abbrev pub textHead : ℕ → List ℕ → ℕ → ℕ → Count → Head
+textHead kind s at stop c = withCount at c (λ n place. textBody s at kind place n stop)
 
 abbrev pub binaryHead : ℕ → ℕ → Count → Head
-binaryHead at stop (Is n place) = bodied at (holds.Span kindBinary place n) place n stop
-binaryHead at stop (Not e) = Refuse e at
+binaryHead at stop c = withCount at c (λ n place. bodied at (holds.Span kindBinary place n) place n stop)
 
 abbrev pub holderHead : Holder → ℕ → Count → Head
-holderHead h at (Is n next) = Hold h n next
-holderHead h at (Not e) = Refuse e at
+holderHead h at c = withCount at c (λ n next. Hold h n next)
 
 abbrev pub referHead : ℕ → Count → Head
-referHead at (Is n next) = Refer n next
-referHead at (Not e) = Refuse e at
+referHead at c = withCount at c (λ n next. Refer n next)
 
 -- "8 empty registry: declaration of 0"
 abbrev pub declareHead : ℕ → Count → Head
-declareHead at (Is n next) = cond (eqb n 0) (Refuse why.Empty at) (Declare n next)
-declareHead at (Not e) = Refuse e at
+declareHead at c = withCount at c (λ n next. cond (eqb n 0) (Refuse why.Empty at) (Declare n next))
 
 -- "A body running past the bytes around it is a fault of the position that holds it."
 abbrev pub foreignHead : ℕ → ℕ → Count → Head
-foreignHead at stop (Is n place) = cond (leb n (stop - place)) (Foreign place n) (Refuse why.Short at)
-foreignHead at stop (Not e) = Refuse e at
+foreignHead at stop c = withCount at c (λ n place. cond (leb n (stop - place)) (Foreign place n) (Refuse why.Short at))
 
 -- "`0d` before other than `0d`, `00`" is refused
 abbrev pub secondHead : List ℕ → ℕ → ℕ → ℕ → Head
@@ -143,7 +137,7 @@ stands s at stop b small = Leaf (holds.Small b) (at + 1)
 stands s at stop b signedBody = integerHead at stop (b - 0x10) true
 stands s at stop b unsignedBody = integerHead at stop (b - 0x18) false
 stands s at stop b float = bodied at (holds.Span kindFloat (at + 1) (floatSize b)) (at + 1) (floatSize b) stop
-stands s at stop b text = textHead s at stop (countAt textLength s at stop)
+stands s at stop b text = textHead kindText s at stop (countAt textLength s at stop)
 stands s at stop b binary = binaryHead at stop (countAt binaryLength s at stop)
 stands s at stop b char = charHead s at stop
 stands s at stop b array = holderHead Array at (countAt arrayCount s at stop)
@@ -159,4 +153,4 @@ headAt s at stop = cond (ltb at stop) (stands s at stop (getD s at 0) (markerOf 
 
 -- "A record key is a length and text, with no marker"
 unfoldable pub keyAt : List ℕ → ℕ → ℕ → Head
-keyAt s at stop = keyHead s at stop (countAt keyLength s at stop)
+keyAt s at stop = textHead kindKey s at stop (countAt keyLength s at stop)

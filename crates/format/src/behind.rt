@@ -3,7 +3,7 @@ ghost use mathlib.Core.Path.{_≡_};
 ghost use Prim.Native.Nat.{_≤_};
 ghost use lib.ListN.{length};
 ghost use Rattle.wide.specs.Members.{keyLength};
-ghost use Rattle.format.specs.Head.{countAt, textHead, binaryHead, holderHead, referHead, declareHead, foreignHead};
+ghost use Rattle.format.specs.Head.{countAt, textHead, binaryHead, holderHead, referHead, declareHead, foreignHead, keyAt};
 use crate::body::bodied;
 use crate::body::text_body;
 use crate::count::length_at;
@@ -14,16 +14,24 @@ use crate::head::Holder;
 use crate::refusal::Refusal;
 use rows::Row;
 
-// A text.
-pub fn text(s: &[u8], at: usize, from: usize, stop: usize) -> Head
+// A text, or a key.
+pub fn text(s: &[u8], at: usize, from: usize, stop: usize, kind: u32) -> Head
     requires { ⌜ (from ≤ stop) × (stop ≤ length (now s)) ⌝ }
-    ensures { λ r. ⌜ r ≡ textHead (now (s .entry)) at stop (countAt keyLength (now (s .entry)) from stop) ⌝ }
+    ensures { λ r. ⌜ r ≡ textHead kind (now (s .entry)) at stop (countAt keyLength (now (s .entry)) from stop) ⌝ }
 {
     let c = length_at(s, from, stop);
     match c {
-        Count::Is { value, next } => text_body(s, at, Row::TEXT, next, value, stop),
+        Count::Is { value, next } => text_body(s, at, kind, next, value, stop),
         Count::Not { why } => Head::Refuse { why, place: at },
     }
+}
+
+// A record's key at `at`: no marker stands before its length.
+pub fn key_at(s: &[u8], at: usize, stop: usize) -> Head
+    requires { ⌜ (at ≤ stop) × (stop ≤ length (now s)) ⌝ }
+    ensures { λ r. ⌜ r ≡ keyAt (now (s .entry)) at stop ⌝ }
+{
+    text(s, at, at, stop, Row::KEY)
 }
 
 // A binary.

@@ -2,15 +2,11 @@
 ghost use mathlib.Core.Path.{_≡_};
 ghost use Prim.Native.Nat.{_+_, _*_, _≤_, _<_};
 ghost use lib.ListN.{length};
-ghost use Rattle.rows.specs.Table.{limit};
-ghost use Rattle.format.specs.Head.{bodied, textBody, codepoint, charHead, floatSize, keyHead, keyAt};
+ghost use Rattle.format.specs.Head.{bodied, textBody, codepoint, charHead, floatSize};
 use crate::count::index;
-use crate::count::length_at;
 use crate::head::Content;
-use crate::head::Count;
 use crate::head::Head;
 use crate::refusal::Refusal;
-use rows::Row;
 use text::Text;
 
 // A leaf whose body has `size` bytes from `place` on.
@@ -112,16 +108,4 @@ pub fn float_size(b: usize) -> usize
         return 16;
     }
     32
-}
-
-// A record's key at `at`.
-pub fn key_at(s: &[u8], at: usize, stop: usize) -> Head
-    requires { ⌜ (at ≤ stop) × (stop ≤ length (now s)) ⌝ }
-    ensures { λ r. ⌜ r ≡ keyAt (now (s .entry)) at stop ⌝ }
-{
-    let c = length_at(s, at, stop);
-    match c {
-        Count::Is { value, next } => text_body(s, at, Row::KEY, next, value, stop),
-        Count::Not { why } => Head::Refuse { why, place: at },
-    }
 }

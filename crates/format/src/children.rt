@@ -1,8 +1,8 @@
-// What a holder says of its children.
+// What a holder says of its children, and a foreign document of its body.
 ghost use mathlib.Core.Path.{_≡_};
 ghost use Prim.Native.Nat.{_≤_};
 ghost use Rattle.rows.specs.Table.{limit};
-ghost use Rattle.format.specs.Value.{kindOf, childCount, childrenOf};
+ghost use Rattle.format.specs.Value.{kindOf, childCount, childrenOf, inForeign};
 use crate::head::Children;
 use crate::head::Holder;
 use rows::Row;
@@ -41,4 +41,11 @@ impl Holder {
             Holder::Map => Children::Plain,
         }
     }
+}
+
+// How many entries are in force in a foreign body, of those around it.
+pub fn in_foreign(around: usize) -> usize
+    ensures { λ r. ⌜ r ≡ inForeign around ⌝ }
+{
+    around
 }

@@ -10,10 +10,10 @@ mod position;
 mod refusal;
 
 pub use answer::Answer;
-pub use body::key_at;
+pub use behind::key_at;
+pub use children::in_foreign;
 pub use head::Children;
 pub use head::Content;
-pub use head::Count;
 pub use head::Head;
 pub use head::Holder;
 pub use position::head_at;

@@ -63,7 +63,7 @@ fn special_low(s: &[u8], at: usize, stop: usize, b: usize) -> Head
 {
     let from = at + 1;
     if b == 8 {
-        return behind::text(s, at, from, stop);
+        return behind::text(s, at, from, stop, Row::TEXT);
     }
     if b == 9 {
         return behind::holder(s, at, from, stop, Holder::Array);

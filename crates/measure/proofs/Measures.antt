@@ -1,16 +1,13 @@
 -- What is measured of a value position, a law for each way out of the code. Assumes nothing.
 use mathlib.Core.Path.{_≡_, refl, sym, ap, ap₂, _∙_}
-use mathlib.Core.Bool.{Bool, true, false}
 use mathlib.Core.List.{List}
 use Prim.Native.Nat.{ℕ, suc, _+_, _-_, _%_, _^_, _≤_, _<_}
 use native.Mathlib.Omega.{arith}
 use native.Mathlib.Nat.{zero-add, add-zero, sub-zero, add-assoc}
-use lib.Dec.{eqb}
 use lib.ListN.{length}
 use borrow.Author.Tests.{eq-eqb, ne-eqb}
 use mir.Syntax.{w64}
 use mir.Val.{Fits}
-use Rattle.rows.specs.Table.{limit}
 use Rattle.format.specs.declared.refusal.Refusal.{Refusal}
 use Rattle.format.specs.declared.refusal.Refusal.the-variants as why
 use Rattle.format.specs.declared.head.Content.{Content}
@@ -19,13 +16,13 @@ use Rattle.format.specs.declared.head.Head.{Head}
 use Rattle.format.specs.declared.head.Head.the-variants.{Leaf, Hold, Refer, Declare, Foreign, Refuse}
 use Rattle.format.specs.declared.head.Children.{Children}
 use Rattle.format.specs.declared.head.Children.the-variants.{Plain, Keyed, Growing}
-use Rattle.format.specs.Tree.{Tree, refer, Trees, none, more, size, sizes}
+use Rattle.format.specs.Tree.{Tree, refer, Trees, size, sizes}
 use Rattle.format.specs.Head.{headAt, keyAt}
-use Rattle.format.specs.Value.{Reading, right, wrong, Run, ran, broke, Reader, leafOf, kindOf, childCount, childrenOf, keyed, child, ahead, follow, run, held, closed, declaring, framedRight, framed, inForeign, value, ended, document}
+use Rattle.format.specs.Value.{Reading, right, wrong, Run, ran, broke, Reader, leafOf, kindOf, childCount, childrenOf, keyed, child, ahead, follow, run, held, closed, declaring, framed, inForeign, value, document}
 use Rattle.format.specs.Value as values
 use Rattle.format.proofs.Steps as clauses
 use Rattle.format.proofs.Heads.{hold-after, declare-after, foreign-after, foreign-within}
-use Rattle.format.proofs.Values.{leaf-size, ReadAt, RunAt, RightAt, RanAt, value-read, values-run, values-child}
+use Rattle.format.proofs.Values.{leaf-size, ReadAt, RunAt, value-read, values-run, values-child}
 use Rattle.measure.specs.declared.measured.Measured.{Measured}
 use Rattle.measure.specs.declared.measured.Measured.the-variants.{Right, Wrong}
 use Rattle.measure.specs.Measured.{measuredOf, measuredRun}
@@ -228,22 +225,25 @@ pub children-stop : (s : List ℕ) (d at stop k : ℕ) (c : Children) (count : �
     → (a q : ℕ) → m ≡ Right a q → at ≤ stop → q ≤ stop
 children-stop s d at stop k c count m e a q f h = bound s d at stop k c count m e a q f h .1
 
--- ---- a foreign body
+-- ---- a foreign body, inside which k entries are in force
 
-module _ (s : List ℕ) (d k p z : ℕ) (m : Measured) (read : m ≡ measuredOf (value d s k p (p + z))) where
+module _ (s : List ℕ) (d around k p z : ℕ) (in-force : k ≡ inForeign around) (m : Measured) (inside : m ≡ measuredOf (value d s k p (p + z))) where
+  read : m ≡ measuredOf (value d s (inForeign around) p (p + z))
+  read = rw in-force at inside
+
   pub frame-fits : (r q : ℕ) → m ≡ Right r q → 0 < p → p + z ≤ length s → length s < 2 ^ 64 → Fits w64 (1 + r)
   frame-fits r q f pos fit big =
-      let b : (p + r ≤ q) × (q ≤ p + z) = read-bound p (p + z) (value d s k p (p + z)) (value-read d s k p (p + z)) r q (cc) in
+      let b : (p + r ≤ q) × (q ≤ p + z) = read-bound p (p + z) (value d s (inForeign around) p (p + z)) (value-read d s (inForeign around) p (p + z)) r q (cc) in
       omega arith
 
-  pub frame-right : (r q : ℕ) → m ≡ Right r q → q ≡ p + z → Right (1 + r) (p + z) ≡ measuredOf (framed p z (value d s k p (p + z)))
-  frame-right r q f g = framed-whole p z (value d s k p (p + z)) r q (cc) g
+  pub frame-right : (r q : ℕ) → m ≡ Right r q → q ≡ p + z → Right (1 + r) (p + z) ≡ measuredOf (framed p z (value d s (inForeign around) p (p + z)))
+  frame-right r q f g = framed-whole p z (value d s (inForeign around) p (p + z)) r q (cc) g
 
-  pub frame-extra : (r q : ℕ) → m ≡ Right r q → (q ≡ p + z → ⊥) → Right 1 (p + z) ≡ measuredOf (framed p z (value d s k p (p + z)))
-  frame-extra r q f g = framed-extra p z (value d s k p (p + z)) r q (cc) g
+  pub frame-extra : (r q : ℕ) → m ≡ Right r q → (q ≡ p + z → ⊥) → Right 1 (p + z) ≡ measuredOf (framed p z (value d s (inForeign around) p (p + z)))
+  frame-extra r q f g = framed-extra p z (value d s (inForeign around) p (p + z)) r q (cc) g
 
-  pub frame-wrong : (x : Refusal) (q : ℕ) → m ≡ Wrong x q → Right 1 (p + z) ≡ measuredOf (framed p z (value d s k p (p + z)))
-  frame-wrong x q f = framed-wrong p z (value d s k p (p + z)) x q (cc)
+  pub frame-wrong : (x : Refusal) (q : ℕ) → m ≡ Wrong x q → Right 1 (p + z) ≡ measuredOf (framed p z (value d s (inForeign around) p (p + z)))
+  frame-wrong x q f = framed-wrong p z (value d s (inForeign around) p (p + z)) x q (cc)
 
 -- ---- one child
 

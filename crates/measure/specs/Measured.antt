@@ -1,5 +1,4 @@
 -- What is measured of a reading: its rows and the place behind it, or its refusal. Assumes nothing: these are definitions.
-use Prim.Native.Nat.{ℕ}
 use Rattle.format.specs.Tree.{size, sizes}
 use Rattle.format.specs.Value.{Reading, right, wrong, Run, ran, broke}
 use Rattle.measure.specs.declared.measured.Measured.{Measured}

@@ -1,7 +1,6 @@
 // How many rows a document needs, or why it is refused: a pass that writes nothing and assembles no words.
 ghost use mathlib.Core.Path.{_≡_};
 ghost use Prim.Native.Nat.{_≤_};
-ghost use lib.ListN.{length};
 ghost use Rattle.format.specs.Value.{document};
 ghost use Rattle.format.specs.Answer.{depthLimit};
 ghost use Rattle.measure.specs.Measured.{measuredOf};

@@ -101,7 +101,8 @@ fn measure_framed(s: &[u8], place: usize, size: usize, levels: usize, around: us
     ensures { λ r. ⌜ r ≡ measuredOf (framed place size (value levels (now (s .entry)) (inForeign around) place (place + size))) ⌝ }
 {
     let end = place + size;
-    let m = measure_value(s, place, end, levels, around);
+    let inside = format::in_foreign(around);
+    let m = measure_value(s, place, end, levels, inside);
     match m {
         Measured::Right { rows, next } => {
             if next == end {

@@ -17,7 +17,7 @@ use Rattle.format.specs.Layout.{layout, grown}
 use Rattle.reader.specs.Registry.{walk, chain, Below}
 use Rattle.reader.specs.Ready.{treeOf, nextOf, Ran, treesOf, nextsOf, Ready, Did, inForce, grows, ReadyAll, DidAll}
 use Rattle.reader.proofs.Walks.{chain-sets, below-sets}
-use Rattle.reader.proofs.Layouts.{lay-more}
+use Rattle.format.proofs.Layouts.{lay-more}
 use Rattle.reader.proofs.Growth.{laid, many, chain-more, linked-more, below-more}
 use Rattle.reader.proofs.Views.{follow-view}
 use Rattle.reader.proofs.Steps.{did-length}

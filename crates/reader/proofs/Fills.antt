@@ -1,6 +1,6 @@
 -- Filling by each way out of the code: what a position's parts ask, and what is done for it when they are done. Assumes nothing.
 use mathlib.Core.Path.{_≡_, _∙_, sym, ap, refl, subst}
-use mathlib.Core.Bool.{Bool, true, false}
+use mathlib.Core.Bool.{Bool}
 use mathlib.Core.List.{List, []}
 use Prim.Native.Nat.{ℕ, zero, suc, _+_, _-_, _*_, _%_, _≤_, _<_}
 use native.Mathlib.Omega.{arith}
@@ -21,9 +21,9 @@ use Rattle.format.specs.declared.head.Head.the-variants.{Leaf, Hold, Refer, Dec
 use Rattle.format.specs.declared.head.Children.{Children}
 use Rattle.format.specs.declared.head.Children.the-variants.{Plain, Keyed, Growing}
 use Rattle.format.specs.Refusal.{numberOf as refusalNumber}
-use Rattle.format.specs.Tree.{Tree, leaf, size}
+use Rattle.format.specs.Tree.{leaf, size}
 use Rattle.format.specs.Head.{headAt, keyAt}
-use Rattle.format.specs.Value.{Reading, right, wrong, Run, Reader, leafOf, kindOf, childCount, childrenOf, keyed, child, run, held, referred, declaring, framed, inForeign, value}
+use Rattle.format.specs.Value.{Reading, right, wrong, leafOf, kindOf, childCount, childrenOf, keyed, child, run, held, referred, declaring, framed, inForeign, value}
 use Rattle.format.specs.Layout.{layout}
 use Rattle.format.proofs.Heads as heads
 use Rattle.format.proofs.Steps as clauses
@@ -31,8 +31,8 @@ use Rattle.measure.specs.declared.measured.Measured.{Measured}
 use Rattle.measure.specs.declared.measured.Measured.the-variants as measured
 use Rattle.measure.specs.Measured.{measuredOf}
 use Rattle.reader.specs.Registry.{walk, Below}
-use Rattle.reader.specs.Sane.{Sane, Body, Part}
-use Rattle.reader.specs.Ready.{Laid, Right, treeOf, nextOf, treesOf, Ready, Did, inForce, ReadyAll, DidAll}
+use Rattle.reader.specs.Sane.{Sane}
+use Rattle.reader.specs.Ready.{Laid, Right, nextOf, treesOf, Ready, Did, inForce, ReadyAll, DidAll}
 use Rattle.reader.proofs.Steps as steps
 use Rattle.reader.proofs.Children.{run-many}
 use Rattle.reader.proofs.Growth.{many}
@@ -260,53 +260,62 @@ unfolding Right nextOf
 measured-good (right t n) rows next e = (tt, cc)
 measured-good (wrong y p) rows next e = absurd (let z : _≡_ {A = ℕ} 0 1 = cc in omega arith)
 
-module _ (p n : ℕ) (x : Reading) (m : Measured) (e : m ≡ measuredOf x) where
-  pub body-right : (rows next : ℕ) → m ≡ measured.Right rows next → Right x
-  body-right rows next f = measured-good x rows next (sym e ∙ f) .0
+-- what is said of a body that measured as m
+damaged-extra : (p n : ℕ) (x : Reading) (rows next : ℕ) → measuredOf x ≡ measured.Right rows next → (next ≡ p + n → ⊥)
+    → framed p n x ≡ right (leaf kindForeign p n (refusalNumber why.Extra) 0) (p + n)
+damaged-extra p n (right t b) rows next e g = let i : b ≡ next = cc in rw (i, ne-eqb next (p + n) g)
+damaged-extra p n (wrong y b) rows next e g = absurd (let z : _≡_ {A = ℕ} 0 1 = cc in omega arith)
 
-  pub body-whole : (rows next : ℕ) → m ≡ measured.Right rows next → next ≡ p + n → nextOf x ≡ p + n
-  body-whole rows next f g = measured-good x rows next (sym e ∙ f) .1 ∙ g
+damaged-wrong : (p n : ℕ) (x : Reading) (y : Refusal) (b : ℕ) → measuredOf x ≡ measured.Wrong y b
+    → framed p n x ≡ right (leaf kindForeign p n (refusalNumber y) 0) (p + n)
+damaged-wrong p n (right t q) y b e = absurd (let z : _≡_ {A = ℕ} 0 1 = cc in omega arith)
+damaged-wrong p n (wrong u q) y b e = let i : u ≡ y = cc in ap (λ (v : Refusal). right (leaf kindForeign p n (refusalNumber v) 0) (p + n)) i
 
-  extra-is : (rows next : ℕ) → m ≡ measured.Right rows next → (next ≡ p + n → ⊥) → framed p n x ≡ right (leaf kindForeign p n (refusalNumber why.Extra) 0) (p + n)
-  extra-is rows next f g = of x (sym e ∙ f)
-    where
-      of : (y : Reading) → measuredOf y ≡ measured.Right rows next → framed p n y ≡ right (leaf kindForeign p n (refusalNumber why.Extra) 0) (p + n)
-      of (right t b) q = let i : b ≡ next = cc in rw (i, ne-eqb next (p + n) g)
-      of (wrong y b) q = absurd (let z : _≡_ {A = ℕ} 0 1 = cc in omega arith)
+-- k entries are in force inside
+module _ (s : List ℕ) (d around k p n : ℕ) (in-force : k ≡ inForeign around) where
+  abbrev body : Reading
+  body = value d s (inForeign around) p (p + n)
 
-  damaged-is : (y : Refusal) (b : ℕ) → m ≡ measured.Wrong y b → framed p n x ≡ right (leaf kindForeign p n (refusalNumber y) 0) (p + n)
-  damaged-is y b f = of x (sym e ∙ f)
-    where
-      of : (z : Reading) → measuredOf z ≡ measured.Wrong y b → framed p n z ≡ right (leaf kindForeign p n (refusalNumber y) 0) (p + n)
-      of (right t q) g = absurd (let z : _≡_ {A = ℕ} 0 1 = cc in omega arith)
-      of (wrong u q) g = let i : u ≡ y = cc in ap (λ (v : Refusal). right (leaf kindForeign p n (refusalNumber v) 0) (p + n)) i
+  module _ (m : Measured) (inside : m ≡ measuredOf (value d s k p (p + n))) where
+    e : m ≡ measuredOf body
+    e = rw in-force at inside
 
-  module _ (table : List ℕ) (row first k : ℕ) (table' : List ℕ) (at' row' : ℕ) where
-    pub extra-done : (rows next : ℕ) → m ≡ measured.Right rows next → (next ≡ p + n → ⊥) → Laid table row (wordsOf (damagedRow row p n 10)) (p + n) table' at' row'
-        → Did (framed p n x) table row first k table' at' row'
-    extra-done rows next f g l =
-        steps.did-as (framed p n x) _ table row first k table' at' row' (extra-is rows next f g) (steps.one-laid kindForeign p n 10 0 (p + n) table row first k table' at' row' l)
+    pub body-right : (rows next : ℕ) → m ≡ measured.Right rows next → Right body
+    body-right rows next f = measured-good body rows next (sym e ∙ f) .0
 
-    pub damaged-done : (y : Refusal) (b v : ℕ) → m ≡ measured.Wrong y b → v ≡ refusalNumber y → Laid table row (wordsOf (damagedRow row p n v)) (p + n) table' at' row'
-        → Did (framed p n x) table row first k table' at' row'
-    damaged-done y b v f g l =
-        steps.did-as (framed p n x) _ table row first k table' at' row' (damaged-is y b f)
-        (steps.one-laid kindForeign p n (refusalNumber y) 0 (p + n) table row first k table' at' row' (subst (λ (z : ℕ). Laid table row (wordsOf (damagedRow row p n z)) (p + n) table' at' row') g l))
+    pub body-whole : (rows next : ℕ) → m ≡ measured.Right rows next → next ≡ p + n → nextOf body ≡ p + n
+    body-whole rows next f g = measured-good body rows next (sym e ∙ f) .1 ∙ g
 
--- a right one
-module _ (p n : ℕ) (x : Reading) (table : List ℕ) (row first k : ℕ) (r : Ready (framed p n x) table row first k) (good : Right x) (whole : nextOf x ≡ p + n) where
-  pub right-asks : Ready x table (row + 1) first k
-  right-asks = steps.foreign-ready p n x table row first k r good whole
+    module _ (table : List ℕ) (row first : ℕ) (table' : List ℕ) (at' row' v : ℕ) (l : Laid table row (wordsOf (damagedRow row p n v)) (p + n) table' at' row') where
+      body-done : (y : Refusal) → v ≡ refusalNumber y → framed p n body ≡ right (leaf kindForeign p n (refusalNumber y) 0) (p + n)
+          → Did (framed p n body) table row first around table' at' row'
+      body-done y g is =
+          steps.did-as (framed p n body) _ table row first around table' at' row' is
+          (steps.one-laid kindForeign p n (refusalNumber y) 0 (p + n) table row first around table' at' row' (subst (λ (z : ℕ). Laid table row (wordsOf (damagedRow row p n z)) (p + n) table' at' row') g l))
 
-  module _ (table₁ : List ℕ) (at₁ row₁ : ℕ) (d : Did x table (row + 1) first k table₁ at₁ row₁) where
-    pub right-lent : row < lent table₁
-    right-lent = omega (arith, steps.ready-lent (framed p n x) table row first k r, steps.did-length x table (row + 1) first k table₁ at₁ row₁ d)
+      pub extra-done : (rows next : ℕ) → m ≡ measured.Right rows next → (next ≡ p + n → ⊥) → v ≡ refusalNumber why.Extra → Did (framed p n body) table row first around table' at' row'
+      extra-done rows next f g h = body-done why.Extra h (damaged-extra p n body rows next (sym e ∙ f) g)
 
-    pub right-end : row₁ ≤ limit
-    right-end = steps.foreign-end p n x table row first k r good whole table₁ at₁ row₁ d
+      pub damaged-done : (y : Refusal) (b : ℕ) → m ≡ measured.Wrong y b → v ≡ refusalNumber y → Did (framed p n body) table row first around table' at' row'
+      damaged-done y b f h = body-done y h (damaged-wrong p n body y b (sym e ∙ f))
 
-    pub right-done : (q : Row) (table₂ : List ℕ) → q ≡ foreignRow row₁ → table₂ ≡ sets table₁ (wordsPerRow * row) (wordsOf q) → Did (framed p n x) table row first k table₂ at₁ row₁
-    right-done q table₂ e f = steps.foreign-did p n x table row first k r good whole table₁ at₁ row₁ d q table₂ e f
+  -- a right one
+  module _ (table : List ℕ) (row first : ℕ) (r : Ready (framed p n body) table row first around) (good : Right body) (whole : nextOf body ≡ p + n) where
+    pub right-asks : Ready (value d s k p (p + n)) table (row + 1) first k
+    right-asks = rw in-force (steps.foreign-ready p n body table row first around r good whole)
+
+    module _ (table₁ : List ℕ) (at₁ row₁ : ℕ) (did : Did (value d s k p (p + n)) table (row + 1) first k table₁ at₁ row₁) where
+      o : Did body table (row + 1) first (inForeign around) table₁ at₁ row₁
+      o = rw in-force at did
+
+      pub right-lent : row < lent table₁
+      right-lent = omega (arith, steps.ready-lent (framed p n body) table row first around r, steps.did-length body table (row + 1) first around table₁ at₁ row₁ o)
+
+      pub right-end : row₁ ≤ limit
+      right-end = steps.foreign-end p n body table row first around r good whole table₁ at₁ row₁ o
+
+      pub right-done : (q : Row) (table₂ : List ℕ) → q ≡ foreignRow row₁ → table₂ ≡ sets table₁ (wordsPerRow * row) (wordsOf q) → Did (framed p n body) table row first around table₂ at₁ row₁
+      right-done q table₂ f g = steps.foreign-did p n body table row first around r good whole table₁ at₁ row₁ o q table₂ f g
 
 -- ---- one child
 

@@ -13,7 +13,7 @@ use Rattle.rows.proofs.Rows.{lent-sets}
 use Rattle.format.specs.Tree.{Tree, Trees, none, more, size, sizes}
 use Rattle.format.specs.Layout.{layout, layouts, entries, grown}
 use Rattle.reader.specs.Registry.{walk, chain, Below}
-use Rattle.reader.proofs.Layouts.{size-pos, laid-end, lay-more}
+use Rattle.format.proofs.Layouts.{size-pos, laid-end, lay-more}
 use Rattle.reader.proofs.Walks.{walk-sets, chain-sets, below-sets, below-none, walk-start}
 
 -- a table with the tree t laid at `row`

@@ -6,7 +6,7 @@ use mathlib.Core.List.{List, []}
 use Prim.Native.Nat.{ℕ, _+_, _*_, _≤_, _<_}
 use native.Mathlib.Nat.{add-zero}
 use native.Mathlib.Omega.{arith}
-use lib.ListN.{length, getD}
+use lib.ListN.{length}
 use lib.Seq.{sets, length-sets}
 use lib.Dec.{ltb}
 use Rattle.rows.specs.declared.row.Row.{Row}
@@ -26,7 +26,7 @@ use Rattle.reader.specs.Registry.{walk, chain, Below}
 use Rattle.format.proofs.Values.{leaf-size}
 use Rattle.reader.specs.Ready.{Laid, Right, treeOf, nextOf, treesOf, nextsOf, Ready, Did, inForce, grows, ReadyAll, DidAll}
 use Rattle.reader.proofs.Walks.{chain-at, below-fewer, below-none, walk-start}
-use Rattle.reader.proofs.Layouts.{size-pos, lay-hold, lay-foreign, lay-declare}
+use Rattle.format.proofs.Layouts.{size-pos, lay-hold, lay-foreign, lay-declare}
 use Rattle.reader.proofs.Growth.{many, chain-declared, below-declared}
 use Rattle.reader.proofs.Views.{held-view, refer-view, declare-view, framed-whole}
 

@@ -1,23 +1,13 @@
 -- What a right reading is made of, by what stands at its position. Assumes nothing.
 use mathlib.Core.Path.{_≡_, refl, sym, ap, subst, _∙_}
 use mathlib.Core.Bool.{Bool, true, false}
-use mathlib.Core.List.{List}
-use Prim.Native.Nat.{ℕ, zero, suc, _+_, _-_, _%_, _<_}
-use native.Mathlib.Omega.{arith}
+use Prim.Native.Nat.{ℕ, _+_, _<_}
 use lib.Dec.{ltb}
-use borrow.Author.Tests.{ltb-true, eq-eqb, ne-eqb}
+use borrow.Author.Tests.{ltb-true, eq-eqb}
 use Rattle.rows.specs.Kinds.{kindForeign}
-use Rattle.format.specs.declared.refusal.Refusal.{Refusal}
 use Rattle.format.specs.declared.refusal.Refusal.the-variants as why
-use Rattle.format.specs.declared.head.Content.{Content}
-use Rattle.format.specs.declared.head.Holder.{Holder}
-use Rattle.format.specs.declared.head.Head.{Head}
-use Rattle.format.specs.declared.head.Head.the-variants.{Leaf, Hold, Refer, Declare, Foreign, Refuse}
-use Rattle.format.specs.declared.head.Children.the-variants.{Plain, Keyed, Growing}
-use Rattle.format.specs.Refusal.{numberOf as refusalNumber}
-use Rattle.format.specs.Tree.{leaf, refer, hold, declare, none, more}
-use Rattle.format.specs.Head.{headAt, keyAt}
-use Rattle.format.specs.Value.{Reading, right, wrong, Run, ran, broke, Reader, leafOf, kindOf, childCount, childrenOf, keyed, child, ahead, follow, run, held, referred, closed, declaring, framedRight, framed, inForeign, step, value}
+use Rattle.format.specs.Tree.{refer, hold, declare, none, more}
+use Rattle.format.specs.Value.{Reading, right, wrong, Run, ran, broke, Reader, ahead, follow, held, referred, closed, declaring, framedRight, framed}
 use Rattle.reader.specs.Ready.{Right, treeOf, nextOf, Ran, treesOf, nextsOf}
 
 -- ---- a value position, by its head

@@ -16,7 +16,7 @@ use Rattle.format.specs.Layout.{layout}
 use Rattle.reader.specs.Registry.{chain}
 use Rattle.reader.specs.Ready.{Right, treeOf, Ready, Did}
 use Rattle.reader.proofs.Walks.{below-none}
-use Rattle.reader.proofs.Layouts.{length-layout}
+use Rattle.format.proofs.Layouts.{length-layout}
 
 drop-zeros : (n m : ℕ) → drop {A = ℕ} n (replicate m 0) ≡ replicate (m - n) 0
 drop-zeros zero m = rw sub-zero

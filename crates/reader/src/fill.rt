@@ -14,6 +14,7 @@ use crate::one::fill_reference;
 use format::Children;
 use format::Head;
 use format::Holder;
+use format::Refusal;
 use measure::Measured;
 use rows::Row;
 
@@ -140,13 +141,14 @@ fn fill_foreign(
     ensures { λ r. ⌜ Did (framed place size (value levels (now (s .entry)) (inForeign around) place (place + size))) (now (table .entry)) row first around (now (table .exit)) (r .next) (r .row) ⌝ }
 {
     let end = place + size;
-    let m = measure::measure_value(s, place, end, levels, around);
+    let inside = format::in_foreign(around);
+    let m = measure::measure_value(s, place, end, levels, inside);
     match m {
         Measured::Right { rows: _, next } => {
             if next == end {
                 return fill_right(table, s, place, size, levels, row, first, around);
             }
-            fill_damaged(table, row, place, size, 10)
+            fill_damaged(table, row, place, size, Refusal::Extra.number())
         }
         Measured::Wrong { why, place: _ } => { fill_damaged(table, row, place, size, why.number()) }
     }
@@ -168,6 +170,7 @@ fn fill_right(
     requires { ⌜ (place + size ≤ length (now s)) × (length (now s) ≤ limit) ⌝ }
     ensures { λ r. ⌜ Did (framed place size (value levels (now (s .entry)) (inForeign around) place (place + size))) (now (table .entry)) row first around (now (table .exit)) (r .next) (r .row) ⌝ }
 {
+    let inside = format::in_foreign(around);
     let f = fill_value(
         table,
         s,
@@ -176,7 +179,7 @@ fn fill_right(
         levels,
         row + 1,
         first,
-        around,
+        inside,
     );
     let end = f.row;
     rows::lay(table, row, Row::foreign(end));

@@ -1,10 +1,8 @@
 // Positions that take one row.
-ghost use mathlib.Core.Path.{_≡_};
 ghost use mathlib.Core.List.{[]};
-ghost use Prim.Native.Nat.{_+_, _*_, _≤_, _<_};
+ghost use Prim.Native.Nat.{_+_, _≤_, _<_};
 ghost use lib.ListN.{length};
-ghost use lib.Seq.{sets};
-ghost use Rattle.rows.specs.Table.{wordsPerRow, wordsOf, lent, limit};
+ghost use Rattle.rows.specs.Table.{wordsOf, lent, limit};
 ghost use Rattle.rows.specs.Kinds.{referenceRow, damagedRow};
 ghost use Rattle.format.specs.Head.{keyAt};
 ghost use Rattle.format.specs.Value.{leafOf, keyed};

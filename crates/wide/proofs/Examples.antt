@@ -1,6 +1,6 @@
 -- The list of examples holds: each number is written as its bytes, and its bytes are read as the number, all used. Assumes nothing.
 use mathlib.Core.Path.{_≡_, refl}
-use mathlib.Core.List.{List, [], _∷_, map}
+use mathlib.Core.List.{List, map}
 use Prim.Native.Nat.{ℕ}
 use lib.ListN.{length}
 use Rattle.wide.specs.Words.{whole}

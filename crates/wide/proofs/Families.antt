@@ -3,10 +3,10 @@
 use mathlib.Core.Path.{_≡_, _∙_, sym, ap, refl, subst}
 use mathlib.Core.Bool.{Bool, true, false, cond}
 use mathlib.Core.List.{List, [], _∷_, _++_, append-assoc}
-use Prim.Native.Nat.{ℕ, zero, suc, _+_, _-_, _%_, _^_, _≤_, _<_}
+use Prim.Native.Nat.{ℕ, suc, _+_, _%_, _^_, _≤_, _<_}
 use native.Mathlib.Nat.{mod-eq-of-lt}
 use native.Mathlib.Omega.{arith}
-use lib.ListN.{length, take, drop, length-append, length-drop}
+use lib.ListN.{length, take, drop, length-append}
 use lib.Seq.{take-at, length-take-le}
 use lib.Dec.{leb, ltb, eqb}
 use borrow.Author.Tests.{le-leb, lt-leb, lt-ltb, le-ltb, eq-eqb, leb-true, ltb-true}
@@ -15,8 +15,8 @@ use Rattle.wide.specs.Words.{whole}
 use Rattle.wide.specs.Body.{sizeAt, bodyValue, rank}
 use Rattle.wide.specs.Family.{Run, behind, hasByte, numberOf, hasNumber, byteOf, Family, Coded, is, short, other, longer, body, unmarked, marked, coded, unmarkedForm, form}
 use Rattle.wide.proofs.Numbers.{either, Bytes, length-bytesOf, bytes-bytesOf, bytes-take, bytes-drop}
-use Rattle.wide.proofs.Ranks.{bool-case, apart, reach, Held, body-held, rank-lt, rank-least, rank-reads, size-mono, size-low, size-high}
-use Rattle.wide.proofs.Runs.{Valid, behind-move, behind-lt, number-has, number-small, byte-small, byte-has, byte-number}
+use Rattle.wide.proofs.Ranks.{bool-case, reach, Held, body-held, rank-lt, rank-least, rank-reads, size-mono, size-high}
+use Rattle.wide.proofs.Runs.{Valid, behind-move, number-has, number-small, byte-small, byte-has, byte-number}
 
 pub cond-yes : {A : Type 0} (b : Bool) (x y : A) → b ≡ true → cond b x y ≡ x
 cond-yes b x y e = ap (λ (t : Bool). cond t x y) e

@@ -10,7 +10,7 @@ use lib.Dec.{leb}
 use borrow.Author.Tests.{le-leb}
 use Rattle.wide.specs.declared.wide.Wide.{Wide}
 use Rattle.wide.specs.declared.answer.Read.{Read}
-use Rattle.wide.specs.declared.answer.Read.the-variants.{Got, Short}
+use Rattle.wide.specs.declared.answer.Read.the-variants.{Got}
 use Rattle.wide.specs.declared.answer.Written.{Written}
 use Rattle.wide.specs.Words.{valueOf, wideOf}
 use Rattle.wide.specs.Family.{Family, Coded, is, short, other, coded, form}

@@ -2,19 +2,18 @@
 use mathlib.Core.Path.{_≡_, _∙_, sym, ap, ap₂, refl, subst}
 use mathlib.Core.Bool.{Bool, true, false, cond}
 use mathlib.Core.List.{List, [], _∷_}
-use Prim.Native.Nat.{ℕ, zero, suc, _+_, _-_, _*_, _/_, _%_, _^_, _≤_, _<_, min, zero-le, suc-le-suc}
+use Prim.Native.Nat.{ℕ, zero, suc, _+_, _-_, _*_, _%_, _^_, _≤_, _<_, min, zero-le, suc-le-suc}
 use native.Mathlib.Nat.{mod-eq-of-lt, mul-sub, mul-add-mod-self-left, mul-one, pow-le-pow-right, zero-lt-suc, not-suc-le-zero, le-trans, le-of-suc-le-suc}
 use native.Mathlib.Omega.{arith}
 use lib.ListN.{length, getD}
-use lib.Dec.{leb, ltb, eqb, lit≤}
+use lib.Dec.{leb, ltb, lit≤}
 use lib.Pow.{pow-add}
-use borrow.Author.Tests.{lt-ltb, le-ltb, le-leb, lt-leb, eq-eqb, ne-eqb, eqb-true, ltb-true}
-use Rattle.wide.specs.declared.wide.Wide.{Wide}
+use borrow.Author.Tests.{lt-ltb, le-ltb, le-leb, lt-leb, eq-eqb, ne-eqb, ltb-true}
 use Rattle.wide.specs.Number.{number, bytesOf}
-use Rattle.wide.specs.Words.{whole, valueOf, wideOf}
+use Rattle.wide.specs.Words.{whole}
 use Rattle.wide.specs.Body.{sizes, sizeAt, negative, extended, bodyValue, fits, firstOf, rank}
 use Rattle.wide.proofs.Numbers.{either, Bytes, length-bytesOf, bytes-bytesOf, number-bytesOf, number-lt, pow-step}
-use Rattle.wide.proofs.Wides.{Words, half, whole-half, value-lt, value-wide}
+use Rattle.wide.proofs.Wides.{half, whole-half}
 use Rattle.wide.proofs.Bodies.{pow-whole}
 
 pub bool-case {ℓ} : {X : Type ℓ} (b : Bool) → (b ≡ true → X) → (b ≡ false → X) → X

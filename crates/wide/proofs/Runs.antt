@@ -1,11 +1,11 @@
 -- A run's bytes and numbers go over into each other, one for one. Assumes nothing.
-use mathlib.Core.Path.{_≡_, _∙_, sym, ap, subst}
-use mathlib.Core.Bool.{Bool, true, false}
+use mathlib.Core.Path.{_≡_, _∙_, ap}
+use mathlib.Core.Bool.{true}
 use Prim.Native.Nat.{ℕ, _+_, _-_, _%_, _≤_, _<_}
 use native.Mathlib.Nat.{mod-lt, mod-eq-of-lt, mod-add-mod, add-mod-mod, add-mod-right}
 use native.Mathlib.Omega.{arith}
 use lib.Dec.{ltb, lit≤}
-use borrow.Author.Tests.{lt-ltb, ltb-true}
+use borrow.Author.Tests.{ltb-true}
 use Rattle.wide.specs.Words.{whole}
 use Rattle.wide.specs.Family.{Run, behind, hasByte, numberOf, hasNumber, byteOf}
 

@@ -1,6 +1,6 @@
 -- The words of a number with a byte more at the low end, with its low byte off, doubled, and complemented. Assumes nothing.
 use mathlib.Core.Path.{_≡_, _∙_, sym, ap, refl, subst}
-use Prim.Native.Nat.{ℕ, zero, suc, _+_, _-_, _*_, _/_, _%_, _^_, _≤_, _<_}
+use Prim.Native.Nat.{ℕ, _+_, _-_, _*_, _/_, _%_, _^_, _≤_, _<_}
 use native.Mathlib.Omega.{arith}
 use Rattle.wide.specs.declared.wide.Wide.{Wide}
 use Rattle.wide.specs.Words.{whole, valueOf, wideOf, words}

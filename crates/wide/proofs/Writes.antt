@@ -1,14 +1,13 @@
 -- What a form leaves in an output, with room and without. Assumes nothing.
 use mathlib.Core.Path.{_≡_, _∙_, sym, ap}
-use mathlib.Core.Bool.{Bool, true, false}
+use mathlib.Core.Bool.{true, false}
 use mathlib.Core.List.{List, [], _∷_}
-use Prim.Native.Nat.{ℕ, suc, _+_, _≤_, _<_}
+use Prim.Native.Nat.{ℕ, _+_, _≤_, _<_}
 use native.Mathlib.Omega.{arith}
 use lib.ListN.{length, set}
 use lib.Seq.{sets}
 use lib.Dec.{leb}
 use borrow.Author.Tests.{le-leb, lt-leb}
-use Rattle.wide.specs.declared.answer.Written.{Written}
 use Rattle.wide.specs.declared.answer.Written.the-variants.{Done, NoRoom}
 use Rattle.wide.specs.Number.{bytesOf}
 use Rattle.wide.specs.Answer.{writtenOf, outputOf}

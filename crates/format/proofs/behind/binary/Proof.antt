@@ -1,5 +1,5 @@
 -- `format::behind::binary` meets its contract. Assumes nothing.
-use mathlib.Core.Path.{_≡_, _∙_, sym, ap}
+use mathlib.Core.Path.{_∙_, sym, ap}
 use Rattle.wide.specs.Members.{keyLength}
 use Rattle.format.specs.Head.{binaryHead}
 use Rattle.format.proofs.Heads.{count-within}

@@ -1,5 +1,5 @@
 -- `format::behind::declaration` meets its contract. Assumes nothing.
-use mathlib.Core.Path.{_≡_, _∙_, sym, ap}
+use mathlib.Core.Path.{_∙_, sym, ap}
 use Rattle.format.specs.Head.{declareHead}
 use Rattle.format.proofs.Positions.{declare-some, declare-none}
 use borrow.Author.Needs.{needs}

@@ -1,5 +1,5 @@
 -- `format::behind::foreign` meets its contract. Assumes nothing.
-use mathlib.Core.Path.{_≡_, _∙_, sym, ap}
+use mathlib.Core.Path.{_∙_, sym, ap}
 use Rattle.wide.specs.Members.{keyLength}
 use Rattle.format.specs.Head.{foreignHead}
 use Rattle.format.proofs.Positions.{foreign-there, foreign-cut}

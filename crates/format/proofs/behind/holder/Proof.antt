@@ -1,5 +1,5 @@
 -- `format::behind::holder` meets its contract. Assumes nothing.
-use mathlib.Core.Path.{_≡_, _∙_, sym, ap}
+use mathlib.Core.Path.{_∙_, sym, ap}
 use Rattle.format.specs.Head.{holderHead}
 use borrow.Author.Needs.{needs}
 use Rattle.format.proofs.behind.holder.Statement.{statement}

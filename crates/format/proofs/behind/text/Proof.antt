@@ -1,5 +1,5 @@
 -- `format::behind::text` meets its contract. Assumes nothing.
-use mathlib.Core.Path.{_≡_, _∙_, sym, ap}
+use mathlib.Core.Path.{_∙_, sym, ap}
 use Rattle.wide.specs.Members.{keyLength}
 use Rattle.format.specs.Head.{textHead}
 use Rattle.format.proofs.Heads.{count-within}
@@ -24,12 +24,12 @@ enum-known-c-2 c = search needs
 returns : tie.Need-returns
 returns c =
     let a = c .before .before .before .before .before .before .args in
-    c .text-body .ensures ∙ ap (textHead (a .s .now) (a .at) (a .stop)) (sym (c .before .before .c .given .1) ∙ c .before .before .before .before .length-at .ensures)
+    c .text-body .ensures ∙ ap (textHead (a .kind) (a .s .now) (a .at) (a .stop)) (sym (c .before .before .c .given .1) ∙ c .before .before .before .before .length-at .ensures)
 
 returns-2 : tie.Need-returns-2
 returns-2 c =
     let a = c .before .before .before .before .before .args in
-    ap (textHead (a .s .now) (a .at) (a .stop)) (sym (c .before .c2 .given .1) ∙ c .before .before .before .length-at .ensures)
+    ap (textHead (a .kind) (a .s .now) (a .at) (a .stop)) (sym (c .before .c2 .given .1) ∙ c .before .before .before .length-at .ensures)
 
 pub text-spec : {M : Type 1} → statement M
 text-spec =

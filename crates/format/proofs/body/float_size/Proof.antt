@@ -1,6 +1,5 @@
 -- `format::body::float_size` meets its contract. Assumes nothing.
 use mathlib.Core.Path.{_≡_, sym, ap}
-use Prim.Native.Nat.{ℕ}
 use native.Mathlib.Omega.{arith}
 use Rattle.format.specs.Head.{floatSize}
 use Rattle.format.proofs.body.float_size.Statement.{statement}

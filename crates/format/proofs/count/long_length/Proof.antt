@@ -1,5 +1,5 @@
 -- `format::count::long_length` meets its contract. Assumes nothing.
-use mathlib.Core.Path.{_≡_, _∙_, sym, ap}
+use mathlib.Core.Path.{_∙_, sym}
 use native.Mathlib.Omega.{arith}
 use Rattle.format.proofs.Counts.{got-there, got-is, got-huge, got-short}
 use borrow.Author.Needs.{needs}

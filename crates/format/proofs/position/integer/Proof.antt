@@ -1,5 +1,5 @@
 -- `format::position::integer` meets its contract. Assumes nothing.
-use mathlib.Core.Path.{_≡_, _∙_, sym, ap}
+use mathlib.Core.Path.{_∙_, ap}
 use Prim.Native.Nat.{ℕ, _+_}
 use Rattle.format.specs.declared.head.Content.the-variants.{Integer}
 use Rattle.format.specs.Head.{bodied}

@@ -28,6 +28,7 @@ use Rattle.measure.proofs.value.+measure_child+measure_children+measure
 use Rattle.format.proofs.head.Holder.children.Reads as children-reads
 use Rattle.format.proofs.head.Holder.reading.Reads as reading-reads
 use Rattle.format.proofs.head_at.Reads as head-at-reads
+use Rattle.format.proofs.in_foreign.Reads as in-foreign-reads
 use Rattle.measure.proofs.key.measure_key.Reads as measure-key-reads
 use Rattle.measure.proofs.value.+measure_child+measure_children+measure_declared+measure_framed+measure_hold+measure_value.{
   statement,
@@ -209,11 +210,16 @@ pub +measure-child+measure-children+measure-declared+measure-framed+measure-hold
     (λ c. search declare-right)
     (λ c. search declare-wrong)
     (λ c. search entry-wrong))
-    (λ t. measure-framed-lts.spec
-    (measure-value-below t, measure-value.Post)
+    (λ t. measure-framed-lts.spec (
+      in-foreign-reads.Asked,
+      in-foreign-reads.Learnt,
+      measure-value-below t,
+      measure-value.Post,
+    )
     (measure-framed-at t)
     measure-framed.Post
     (λ c. search needs)
+    (λ c κs. search needs)
     (λ c κs. search needs)
     (λ c. search needs)
     (λ c. search frame-fits)

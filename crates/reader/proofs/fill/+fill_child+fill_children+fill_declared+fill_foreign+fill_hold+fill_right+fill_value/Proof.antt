@@ -34,6 +34,7 @@ use Rattle.format.proofs.head.Holder.children.Reads as children-reads
 use Rattle.format.proofs.head.Holder.kind.Reads as kind-reads
 use Rattle.format.proofs.head.Holder.reading.Reads as reading-reads
 use Rattle.format.proofs.head_at.Reads as head-at-reads
+use Rattle.format.proofs.in_foreign.Reads as in-foreign-reads
 use Rattle.format.proofs.refusal.Refusal.number.Reads as number-reads
 use Rattle.measure.proofs.measure_value.Reads as measure-value-reads
 use Rattle.reader.proofs.one.fill_damaged.Reads as fill-damaged-reads
@@ -223,23 +224,27 @@ pub +fill-child+fill-children+fill-declared+fill-foreign+fill-hold+fill-right+fi
     declared-done (a .count) (a .levels) (a .s .now) (a .at) (a .stop) (a .table .now) (a .row) (a .first) (a .around) (c .before .before .before .before .before .before .before .before .before .before .before .before .before .before .before .pre .1 .0)
     (e .last .0) (e .result .next) (e .result .row) (e .ensures) (v .last .0) (v .result .next) (v .result .row) (v .ensures) (c .before .before .before .declaration .result) (c .before .before .lay .last .0) (c .before .before .before .declaration .ensures) (c .before .before .lay .ensures)))
     (λ t. fill-foreign-lts.spec (
+      in-foreign-reads.Asked,
+      in-foreign-reads.Learnt,
       measure-value-reads.Asked,
       measure-value-reads.Learnt,
       fill-right-below t,
       fill-right.Post,
-      fill-damaged-reads.Asked,
-      fill-damaged-reads.Learnt,
       number-reads.Asked,
       number-reads.Learnt,
+      fill-damaged-reads.Asked,
+      fill-damaged-reads.Learnt,
     )
     (fill-foreign-at t)
     fill-foreign.Post
     (λ c. search needs)
     (λ c κs. search needs)
+    (λ c κs. search needs)
     (λ c. search needs)
     (λ c κs. (search needs, (search needs, ((search body-right, search body-whole), search needs))))
     (λ c. search needs)
     (λ c. search needs)
+    (λ c κs. search needs)
     (λ c κs. (search ready-lent, search ready-low, search needs))
     (λ c. search needs)
     (λ c κs. search needs)
@@ -280,6 +285,8 @@ pub +fill-child+fill-children+fill-declared+fill-foreign+fill-hold+fill-right+fi
     (e .last .0) (e .result .next) (e .result .row) (e .ensures)
     (c .before .before .before .before .kind .result) (c .before .before .before .holder .result) (c .before .before .lay .last .0) (c .before .before .before .before .kind .ensures) (c .before .before .before .holder .ensures) (c .before .before .lay .ensures)))
     (λ t. fill-right-lts.spec (
+      in-foreign-reads.Asked,
+      in-foreign-reads.Learnt,
       fill-value-below t,
       fill-value.Post,
       foreign-reads.Asked,
@@ -289,6 +296,7 @@ pub +fill-child+fill-children+fill-declared+fill-foreign+fill-hold+fill-right+fi
     )
     (fill-right-at t)
     fill-right.Post
+    (λ c κs. search needs)
     (λ c. search needs)
     (λ c. search (needs, ready-low))
     (λ c κs. (search needs, (search right-asks, search needs)))
@@ -296,10 +304,11 @@ pub +fill-child+fill-children+fill-declared+fill-foreign+fill-hold+fill-right+fi
     (λ c κs. search right-lent)
     (λ c. search needs)
     (λ c.
-    let a = c .before .before .before .before .before .before .before .before .before .before .before .args in
-    let p = c .before .before .before .before .before .before .before .before .before .before .before .pre .1 in
+    let a = c .before .before .before .before .before .before .before .before .before .before .before .before .args in
+    let p = c .before .before .before .before .before .before .before .before .before .before .before .before .pre .1 in
+    let i = c .before .before .before .before .before .before .before .before .before .in-foreign in
     let v = c .before .before .before .before .before .before .before .fill-value in
-    right-done (a .place) (a .size) (value (a .levels) (a .s .now) (a .around) (a .place) (a .place + a .size)) (a .table .now) (a .row) (a .first) (a .around)
+    right-done (a .s .now) (a .levels) (a .around) (i .result) (a .place) (a .size) (i .ensures) (a .table .now) (a .row) (a .first)
     (p .0) (p .1 .0 .0) (p .1 .0 .1) (v .last .0) (v .result .next) (v .result .row) (v .ensures)
     (c .before .before .before .foreign .result) (c .before .before .lay .last .0) (c .before .before .before .foreign .ensures) (c .before .before .lay .ensures)))
     λ t. fill-value-lts.spec (

@@ -1,16 +1,14 @@
 -- `wide::body::write_body` meets its contract. Assumes nothing.
-use mathlib.Core.Path.{_≡_, _∙_, ap, sym}
-use Prim.Native.Nat.{ℕ, _+_, _-_, _/_, _≤_, _<_}
-use native.Mathlib.Omega.{arith}
+use mathlib.Core.Path.{_≡_, sym}
+use Prim.Native.Nat.{_+_, _-_, _/_, _≤_}
 use borrow.Author.Needs.{needs}
 use lib.ListN.{length, length-set}
 use lib.Seq.{sets}
 use Rattle.wide.specs.Number.{bytesOf}
-use Rattle.wide.specs.Words.{valueOf, wideOf}
+use Rattle.wide.specs.Words.{valueOf}
 use Rattle.wide.proofs.Wides.{Words, words-wide}
 use Rattle.wide.proofs.Bodies.{write-start, write-turn, write-end}
 use mathlib.Core.Path.{subst}
-use Rattle.wide.specs.declared.wide.Wide.{Wide}
 use Rattle.wide.proofs.body.write_body.Statement.{statement}
 use Rattle.wide.proofs.body.write_body.Tie as tie
 

@@ -1,7 +1,6 @@
 -- `wide::step::filled` meets its contract. Assumes nothing.
-use Prim.Native.Nat.{_-_}
 use mathlib.Core.Path.{_≡_, _∙_, ap, sym, refl}
-use mathlib.Core.Bool.{Bool, true, false}
+use mathlib.Core.Bool.{Bool, true}
 use Rattle.wide.specs.Words.{whole, words, wideOf}
 use Rattle.wide.specs.Body.{extended}
 use Rattle.wide.proofs.step.filled.Statement.{statement}

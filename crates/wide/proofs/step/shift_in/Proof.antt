@@ -1,5 +1,4 @@
 -- `wide::step::shift_in` meets its contract. Assumes nothing.
-use native.Mathlib.Omega.{arith}
 use Rattle.wide.proofs.Wides.{Words}
 use Rattle.wide.proofs.Steps.{shifted-in}
 use borrow.Author.Needs.{needs}

@@ -1,5 +1,5 @@
 -- `wide::variable::place_of` meets its contract. Assumes nothing.
-use mathlib.Core.Path.{_≡_, _∙_, ap, sym}
+use mathlib.Core.Path.{ap}
 use Prim.Native.Nat.{ℕ, _+_, _-_, _%_}
 use native.Mathlib.Omega.{arith}
 use Rattle.wide.specs.Family.{behind}

@@ -1,5 +1,5 @@
 -- `format::head::Holder::children` meets its contract. Assumes nothing.
-use mathlib.Core.Path.{_≡_, ap, sym}
+use mathlib.Core.Path.{ap, sym}
 use Rattle.format.specs.declared.head.Holder.{Holder}
 use Rattle.format.specs.Value.{childCount}
 use borrow.Author.Needs.{needs}

@@ -1,5 +1,5 @@
 -- `wide::answer::Read::value` meets its contract. Assumes nothing.
-use mathlib.Core.Path.{_≡_, _∙_, ap, sym}
+use mathlib.Core.Path.{ap, sym}
 use Rattle.wide.specs.Answer.{readValue}
 use borrow.Author.Needs.{needs}
 use Rattle.wide.proofs.answer.Read.value.Statement.{statement}
