@@ -1,4 +1,4 @@
--- Laws of the words of a tree's rows: how many they are, where they end, and that they may be laid in parts, a holder's own row last.
+-- Laws of a holder's children, and of the words of a tree's rows: how many they are, where they end, and that they may be laid in parts, a holder's own row last.
 -- Assumes nothing.
 use mathlib.Core.Path.{_≡_, refl, sym, ap, _∙_}
 use Prim.Native.Nat.{ℕ, _+_, _*_, _≤_, _<_}
@@ -13,8 +13,25 @@ use Rattle.rows.specs.declared.row.Row.{Row}
 use Rattle.rows.specs.Table.{wordsPerRow, wordsOf, rowAt, lent}
 use Rattle.rows.specs.Kinds.{kindForeign, holderRow, declarationRow, foreignRow}
 use Rattle.rows.proofs.Rows.{row-sets-in, row-last}
+use Rattle.format.specs.declared.head.Holder.{Holder}
+use Rattle.format.specs.declared.head.Holder.the-variants.{Array, Record, Map}
 use Rattle.format.specs.Tree.{Tree, leaf, refer, hold, declare, Trees, none, more, size, sizes}
-use Rattle.format.specs.Layout.{layout, layouts, entries, grown}
+use Rattle.format.specs.Value.{childrenOf, inForce}
+use Rattle.format.specs.Layout.{isEntry, layout, layouts, entries, grown}
+
+-- ---- a holder's children
+
+-- they are no entries
+pub no-entry : (h : Holder) → isEntry (childrenOf h) ≡ false
+no-entry Array = refl
+no-entry Record = refl
+no-entry Map = refl
+
+-- what is in force around a holder is in force for each of them
+pub around-force : (h : Holder) (k i : ℕ) → inForce (childrenOf h) k i ≡ k
+around-force Array k i = refl
+around-force Record k i = refl
+around-force Map k i = refl
 
 -- ---- how many words
 

@@ -87,9 +87,12 @@ charBody at c = cond (codepoint c) (Leaf (holds.Char c) (at + 4)) (Refuse why.Ch
 abbrev pub charHead : List ℕ → ℕ → ℕ → Head
 charHead s at stop = cond (leb 3 (stop - (at + 1))) (charBody at (number (take 3 (drop (at + 1) s)))) (Refuse why.Short at)
 
--- "float bodies of 2, 4, 8, 16, 32 bytes"
+-- "`03`..`07`: float bodies of 2, 4, 8, 16, 32 bytes"
+abbrev pub floatSizes : List ℕ
+floatSizes = 2 ∷ 4 ∷ 8 ∷ 16 ∷ 32 ∷ []
+
 abbrev pub floatSize : ℕ → ℕ
-floatSize b = getD (2 ∷ 4 ∷ 8 ∷ 16 ∷ 32 ∷ []) (b - 0x03) 0
+floatSize b = getD floatSizes (b - 0x03) 0
 
 -- "`10`..`17`: signed bodies of 1, 2, 3, 4, 6, 8, 12, 16 bytes; `18`..`1f`: unsigned, same sizes"
 abbrev pub integerHead : ℕ → ℕ → ℕ → Bool → Head

@@ -5,7 +5,15 @@ use mathlib.Core.List.{List, [], _∷_, _++_}
 use lib.ListN.{getD}
 use Rattle.rows.specs.Table.{wordsOf}
 use Rattle.rows.specs.Kinds.{leafRow, holderRow, referenceRow, declarationRow}
+use Rattle.format.specs.declared.head.Children.{Children}
+use Rattle.format.specs.declared.head.Children.the-variants.{Plain, Keyed, Growing}
 use Rattle.format.specs.Tree.{Tree, leaf, refer, hold, declare, Trees, none, more, size, sizes}
+
+-- whether each child is one more entry in force for those behind it
+abbrev pub isEntry : Children → Bool
+isEntry Plain = false
+isEntry Keyed = false
+isEntry Growing = true
 
 -- the rows of the entries in force behind a tree at `row`: among the entries of a declaration that tree is one more
 abbrev pub grown : Bool → List ℕ → ℕ → List ℕ

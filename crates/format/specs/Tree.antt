@@ -1,5 +1,5 @@
 -- What a document means: a tree. Assumes nothing: these are definitions.
-use Prim.Native.Nat.{ℕ, _+_}
+use Prim.Native.Nat.{ℕ, suc, _+_}
 
 mutual
   pub data Tree : Type 0 where
@@ -16,6 +16,10 @@ mutual
   pub data Trees : Type 0 where
     none : Trees
     more : (first : Tree) → (rest : Trees) → Trees
+
+unfoldable pub many : Trees → ℕ
+many none = 0
+many (more t ts) = suc (many ts)
 
 -- how many rows a tree takes
 unfoldable mutual

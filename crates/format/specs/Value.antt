@@ -97,6 +97,12 @@ child Plain R s around i at stop = R around at stop
 child Keyed R s around i at stop = inTurn (eqb (i % 2) 0) R s around at stop
 child Growing R s around i at stop = R i at stop
 
+-- how many entries are in force for child number i of what has `around` around it
+abbrev pub inForce : Children → ℕ → ℕ → ℕ
+inForce Plain around i = around
+inForce Keyed around i = around
+inForce Growing around i = i
+
 abbrev pub ahead : Tree → Run → Run
 ahead t (ran ts next) = ran (more t ts) next
 ahead t (broke e place) = broke e place

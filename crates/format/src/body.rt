@@ -51,8 +51,8 @@ pub fn text_body(s: &[u8], at: usize, kind: u32, place: usize, size: usize, stop
     }
 }
 
-// Whether a number of three bytes is a codepoint.
-fn is_codepoint(c: usize) -> bool
+// Whether a number is a codepoint that a char may have.
+pub fn is_codepoint(c: usize) -> bool
     ensures { λ r. ⌜ r ≡ codepoint c ⌝ }
 {
     if 1114111 < c {

@@ -1,7 +1,6 @@
 // What a holder says of its children, and a foreign document of its body.
 ghost use mathlib.Core.Path.{_≡_};
-ghost use Prim.Native.Nat.{_≤_};
-ghost use Rattle.rows.specs.Table.{limit};
+ghost use Prim.Native.Nat.{_<_};
 ghost use Rattle.format.specs.Value.{kindOf, childCount, childrenOf, inForeign};
 use crate::head::Children;
 use crate::head::Holder;
@@ -21,7 +20,7 @@ impl Holder {
 
     // How many children stand for n elements or entries.
     pub fn children(self, n: usize) -> usize
-        requires { ⌜ n ≤ limit ⌝ }
+        requires { ⌜ n < 4294967296 ⌝ }
         ensures { λ r. ⌜ r ≡ childCount self n ⌝ }
     {
         match self {

@@ -11,6 +11,7 @@ mod refusal;
 
 pub use answer::Answer;
 pub use behind::key_at;
+pub use body::is_codepoint;
 pub use children::in_foreign;
 pub use head::Children;
 pub use head::Content;

@@ -1,3 +1,4 @@
 -- Laws that belong to no one function.
 pub mod Sets
 pub mod Zeros
+pub mod Tests

@@ -11,23 +11,23 @@ use Rattle.rows.specs.Table.{wordsPerRow, lent}
 use Rattle.rows.proofs.Rows.{lent-sets}
 use Rattle.format.specs.declared.head.Children.{Children}
 use Rattle.format.specs.declared.head.Children.the-variants.{Plain, Keyed, Growing}
-use Rattle.format.specs.Tree.{Tree, Trees, size, sizes}
-use Rattle.format.specs.Value.{Reading, Run, Reader, child, follow, run}
-use Rattle.format.specs.Layout.{layout, grown}
-use Rattle.reader.specs.Registry.{walk, chain, Below}
-use Rattle.reader.specs.Ready.{treeOf, nextOf, Ran, treesOf, nextsOf, Ready, Did, inForce, grows, ReadyAll, DidAll}
-use Rattle.reader.proofs.Walks.{chain-sets, below-sets}
+use Rattle.format.specs.Tree.{many, Tree, Trees, size, sizes}
+use Rattle.format.specs.Value.{Reading, Run, Reader, child, inForce, follow, run}
+use Rattle.format.specs.Layout.{isEntry, layout, grown}
+use Rattle.registry.specs.Registry.{walk, chain, Below}
+use Rattle.reader.specs.Ready.{treeOf, nextOf, Ran, treesOf, nextsOf, Ready, Did, ReadyAll, DidAll}
+use Rattle.registry.proofs.Walks.{chain-sets, below-sets}
 use Rattle.format.proofs.Layouts.{lay-more}
-use Rattle.reader.proofs.Growth.{laid, many, chain-more, linked-more, below-more}
+use Rattle.reader.proofs.Growth.{laid, chain-more, linked-more, below-more}
 use Rattle.reader.proofs.Views.{follow-view}
 use Rattle.reader.proofs.Steps.{did-length}
 
 -- ---- the registry behind a tree that is laid: one more where the trees are entries
 
 record Stepped (c : Children) (table : List ℕ) (first k i row : ℕ) (t : Tree) (registry : List ℕ) : Type 0 where
-  pub force : chain (laid table row t registry) first (inForce c k (i + 1)) ≡ grown (grows c) (chain table first (inForce c k i)) row
+  pub force : chain (laid table row t registry) first (inForce c k (i + 1)) ≡ grown (isEntry c) (chain table first (inForce c k i)) row
   pub below : Below (laid table row t registry) first (inForce c k (i + 1)) (row + size t)
-  pub linked : (grows c ≡ true → walk (laid table row t registry) first (inForce c k (i + 1)) ≡ row + size t)
+  pub linked : (isEntry c ≡ true → walk (laid table row t registry) first (inForce c k (i + 1)) ≡ row + size t)
 
 unmoved : (table : List ℕ) (first k i row : ℕ) (t : Tree) (registry : List ℕ) → Below table first k row → Stepped Plain table first k i row t registry
 unmoved table first k i row t registry below =
@@ -38,7 +38,7 @@ unmoved table first k i row t registry below =
     }
 
 stepped : (c : Children) (table : List ℕ) (first k i row : ℕ) (t : Tree) (registry : List ℕ) → row + size t ≤ lent table
-    → Below table first (inForce c k i) row → (grows c ≡ true → walk table first (inForce c k i) ≡ row) → Stepped c table first k i row t registry
+    → Below table first (inForce c k i) row → (isEntry c ≡ true → walk table first (inForce c k i) ≡ row) → Stepped c table first k i row t registry
 stepped Plain table first k i row t registry room below linked = unmoved table first k i row t registry below
 stepped Keyed table first k i row t registry room below linked =
     let p = unmoved table first k i row t registry below in
@@ -85,18 +85,18 @@ module _ (P : Reading) (F : ℕ → Run) (c : Children) (table : List ℕ) (row 
         let last : sizes (treesOf (F at')) ≡ sizes ts = ap (λ (a : ℕ). sizes (treesOf (F a))) (d .place) in
         let z = all-rows in
         record {
-          words = cc (e .words, d .words, d .place, d .past, step .force, lay-more table (treeOf P) ts (grows c) row (chain table first (inForce c k i)), v .are);
+          words = cc (e .words, d .words, d .place, d .past, step .force, lay-more table (treeOf P) ts (isEntry c) row (chain table first (inForce c k i)), v .are);
           place = cc (e .place, d .place, v .ends);
           past = omega (arith, e .past, d .past);
         }
 
 -- n positions that are right are n trees
 pub run-many : (R : Reader) (c : Children) (s : List ℕ) (k i n at stop : ℕ) → Ran (run R c s k i n at stop) → many (treesOf (run R c s k i n at stop)) ≡ n
-unfolding run treesOf
+unfolding run treesOf many
 run-many R c s k i zero at stop h = refl
 run-many R c s k i (suc n) at stop h =
     let v = follow-view (child c R s k i at stop) (λ a. run R c s k (i + 1) n a stop) h in
-    ap many (v .are) ∙ ap (λ (m : ℕ). 1 + m) (run-many R c s k (i + 1) n (nextOf (child c R s k i at stop)) stop (v .rest)) ∙ omega arith
+    ap many (v .are) ∙ ap suc (run-many R c s k (i + 1) n (nextOf (child c R s k i at stop)) stop (v .rest))
 
 -- ---- a loop over n of them
 

@@ -21,21 +21,20 @@ use Rattle.format.specs.declared.head.Head.the-variants.{Leaf, Hold, Refer, Dec
 use Rattle.format.specs.declared.head.Children.{Children}
 use Rattle.format.specs.declared.head.Children.the-variants.{Plain, Keyed, Growing}
 use Rattle.format.specs.Refusal.{numberOf as refusalNumber}
-use Rattle.format.specs.Tree.{leaf, size}
+use Rattle.format.specs.Tree.{leaf, many, size}
 use Rattle.format.specs.Head.{headAt, keyAt}
-use Rattle.format.specs.Value.{Reading, right, wrong, leafOf, kindOf, childCount, childrenOf, keyed, child, run, held, referred, declaring, framed, inForeign, value}
+use Rattle.format.specs.Value.{Reading, right, wrong, leafOf, kindOf, childCount, childrenOf, keyed, child, inForce, run, held, referred, declaring, framed, inForeign, value}
 use Rattle.format.specs.Layout.{layout}
 use Rattle.format.proofs.Heads as heads
 use Rattle.format.proofs.Steps as clauses
 use Rattle.measure.specs.declared.measured.Measured.{Measured}
 use Rattle.measure.specs.declared.measured.Measured.the-variants as measured
 use Rattle.measure.specs.Measured.{measuredOf}
-use Rattle.reader.specs.Registry.{walk, Below}
+use Rattle.registry.specs.Registry.{walk, Below}
 use Rattle.reader.specs.Sane.{Sane}
-use Rattle.reader.specs.Ready.{Laid, Right, nextOf, treesOf, Ready, Did, inForce, ReadyAll, DidAll}
+use Rattle.reader.specs.Ready.{Laid, Right, nextOf, treesOf, Ready, Did, ReadyAll, DidAll}
 use Rattle.reader.proofs.Steps as steps
 use Rattle.reader.proofs.Children.{run-many}
-use Rattle.reader.proofs.Growth.{many}
 
 -- a refusal is not right
 never : (X : Type 0) (P : Reading) (e : Refusal) (p : ℕ) → P ≡ wrong e p → Right P → X

@@ -1,20 +1,18 @@
 -- The registry grows by each entry that is laid: its end links it with the row behind it. Assumes nothing.
 use mathlib.Core.Path.{_≡_, sym, ap, ap₂, _∙_}
-use Prim.Native.Nat.{ℕ, _+_, _*_, _≤_, _<_}
+use Prim.Native.Nat.{ℕ, suc, _+_, _*_, _≤_, _<_}
 use native.Mathlib.Nat.{add-zero, zero-add}
-use native.Mathlib.Numerals.{add-one}
 use native.Mathlib.Omega.{arith}
-use native.Mathlib.Decide.{decLt}
 use mathlib.Core.Bool.{true}
 use mathlib.Core.List.{List, [], _∷_, _++_}
 use lib.Seq.{sets}
-use Rattle.rows.specs.Table.{wordsPerRow, rowAt, lent}
+use Rattle.rows.specs.Table.{wordsPerRow, lent}
 use Rattle.rows.proofs.Rows.{lent-sets}
-use Rattle.format.specs.Tree.{Tree, Trees, none, more, size, sizes}
+use Rattle.format.specs.Tree.{Tree, Trees, none, more, many, size, sizes}
 use Rattle.format.specs.Layout.{layout, layouts, entries, grown}
-use Rattle.reader.specs.Registry.{walk, chain, Below}
+use Rattle.registry.specs.Registry.{walk, chain, Below}
 use Rattle.format.proofs.Layouts.{size-pos, laid-end, lay-more}
-use Rattle.reader.proofs.Walks.{walk-sets, chain-sets, below-sets, below-none, walk-start}
+use Rattle.registry.proofs.Walks.{chain-grown, walk-grown, below-grown, walk-sets, chain-sets, below-sets, below-none, walk-start}
 
 -- a table with the tree t laid at `row`
 abbrev pub laid : List ℕ → ℕ → Tree → List ℕ → List ℕ
@@ -26,30 +24,17 @@ module _ (table : List ℕ) (first k row : ℕ) (t : Tree) (registry : List ℕ)
   walk-kept = walk-sets table row (layout t row registry) first k below k (omega arith) ∙ linked
 
   pub chain-more : chain (laid table row t registry) first (k + 1) ≡ grown true (chain table first k) row
-  unfolding chain
   chain-more =
-      ap (chain (laid table row t registry) first) (add-one k)
-      ∙ ap₂ (λ (c : List ℕ) (w : ℕ). c ++ (w ∷ [])) (chain-sets table row (layout t row registry) first k below k (omega arith)) walk-kept
+      chain-grown (laid table row t registry) first k row walk-kept
+      ∙ ap (λ (c : List ℕ). c ++ (row ∷ [])) (chain-sets table row (layout t row registry) first k below k (omega arith))
 
   pub linked-more : row + size t ≤ lent table → walk (laid table row t registry) first (k + 1) ≡ row + size t
-  unfolding walk
-  linked-more room =
-      ap (walk (laid table row t registry) first) (add-one k) ∙ ap (λ (w : ℕ). rowAt (laid table row t registry) w .end) walk-kept ∙ laid-end table t row registry room
+  linked-more room = walk-grown (laid table row t registry) first k row walk-kept (row + size t) (laid-end table t row registry room)
 
   pub below-more : Below (laid table row t registry) first (k + 1) (row + size t)
-  unfolding Below
-  below-more i lt = go (decLt i k)
-    where
-      go : Dec (i < k) → walk (laid table row t registry) first i < row + size t
-      go (yes before) = below-sets table row (layout t row registry) first k below (row + size t) (omega arith) i before
-      go (no last) =
-          let e : i ≡ k = omega arith in
-          omega (arith, size-pos t, ap (walk (laid table row t registry) first) e, walk-kept)
-
--- how many trees
-abbrev pub many : Trees → ℕ
-many none = 0
-many (more t ts) = 1 + many ts
+  below-more =
+      below-grown (laid table row t registry) first k row walk-kept (row + size t)
+      (below-sets table row (layout t row registry) first k below row (omega arith)) (omega (arith, size-pos t))
 
 -- a table with the entries es laid at `row`, where the k entries before them are in force
 abbrev pub laidAll : List ℕ → ℕ → ℕ → ℕ → Trees → List ℕ
@@ -62,7 +47,7 @@ pub record Entered (es : Trees) (table : List ℕ) (first k row : ℕ) : Type 0 
 
 pub entered : (es : Trees) (table : List ℕ) (first k row : ℕ) → Below table first k row → walk table first k ≡ row → row + sizes es ≤ lent table
     → Entered es table first k row
-unfolding layout entries size
+unfolding layout entries size many
 entered none table first k row below linked room =
     record { registry = ap (chain table first) (add-zero k); below = rw (add-zero k, add-zero row) below }
 entered (more t es) table first k row below linked room =
@@ -73,7 +58,7 @@ entered (more t es) table first k row below linked room =
     (linked-more table first k row t reg below linked (omega arith))
     (omega (arith, lent-sets table (wordsPerRow * row) (layout t row reg))) in
     let same : laidAll (laid table row t reg) first (k + 1) (row + size t) es ≡ laidAll table first k row (more t es) = rw (chain-more table first k row t reg below linked) (lay-more table t es true row reg) in
-    let n : k + 1 + many es ≡ k + (1 + many es) = omega arith in
+    let n : k + 1 + many es ≡ k + suc (many es) = omega arith in
     let rows : row + size t + sizes es ≡ row + (size t + sizes es) = omega arith in
     record {
       registry = rw (same, n, chain-more table first k row t reg below linked) at (next .registry);

@@ -6,5 +6,4 @@ pub mod Growth
 pub mod Leaves
 pub mod Steps
 pub mod Views
-pub mod Walks
 pub mod Whole

@@ -19,15 +19,15 @@ use Rattle.format.specs.declared.head.Holder.{Holder}
 use Rattle.format.specs.declared.head.Holder.the-variants.{Array, Record, Map}
 use Rattle.format.specs.declared.head.Children.{Children}
 use Rattle.format.specs.declared.head.Children.the-variants.{Growing}
-use Rattle.format.specs.Tree.{Tree, leaf, refer, size, sizes}
-use Rattle.format.specs.Value.{Reading, right, Run, Reader, leafOf, kindOf, childrenOf, held, referred, declaring, framed}
-use Rattle.format.specs.Layout.{layout, layouts, entries}
-use Rattle.reader.specs.Registry.{walk, chain, Below}
+use Rattle.format.specs.Tree.{many, Tree, leaf, refer, size, sizes}
+use Rattle.format.specs.Value.{Reading, right, Run, Reader, leafOf, kindOf, childrenOf, inForce, held, referred, declaring, framed}
+use Rattle.format.specs.Layout.{isEntry, layout, layouts, entries}
+use Rattle.registry.specs.Registry.{walk, chain, Below}
 use Rattle.format.proofs.Values.{leaf-size}
-use Rattle.reader.specs.Ready.{Laid, Right, treeOf, nextOf, treesOf, nextsOf, Ready, Did, inForce, grows, ReadyAll, DidAll}
-use Rattle.reader.proofs.Walks.{chain-at, below-fewer, below-none, walk-start}
-use Rattle.format.proofs.Layouts.{size-pos, lay-hold, lay-foreign, lay-declare}
-use Rattle.reader.proofs.Growth.{many, chain-declared, below-declared}
+use Rattle.reader.specs.Ready.{Laid, Right, treeOf, nextOf, treesOf, nextsOf, Ready, Did, ReadyAll, DidAll}
+use Rattle.registry.proofs.Walks.{chain-at, below-fewer, below-none, walk-start}
+use Rattle.format.proofs.Layouts.{no-entry, around-force, size-pos, lay-hold, lay-foreign, lay-declare}
+use Rattle.reader.proofs.Growth.{chain-declared, below-declared}
 use Rattle.reader.proofs.Views.{held-view, refer-view, declare-view, framed-whole}
 
 -- ---- any position
@@ -110,21 +110,11 @@ module _ (n at next : ℕ) (table : List ℕ) (row first k : ℕ) (r : Ready (re
 
 -- ---- a holder
 
-around-force : (h : Holder) (k i : ℕ) → inForce (childrenOf h) k i ≡ k
-around-force Array k i = refl
-around-force Record k i = refl
-around-force Map k i = refl
-
-never-grows : (h : Holder) → grows (childrenOf h) ≡ false
-never-grows Array = refl
-never-grows Record = refl
-never-grows Map = refl
-
 -- a row below, with its children behind it: what laying it last asks
 pub all-lent : (Q : Run) (c : Children) (table : List ℕ) (row at first k i : ℕ) (table' : List ℕ) (at' row' : ℕ)
     → DidAll Q c table at first k i table' at' row' → row < lent table → row < lent table'
 all-lent Q c table row at first k i table' at' row' d h =
-    omega (arith, ap length (d .words), length-sets table (wordsPerRow * at) (layouts (treesOf Q) (grows c) at (chain table first (inForce c k i))))
+    omega (arith, ap length (d .words), length-sets table (wordsPerRow * at) (layouts (treesOf Q) (isEntry c) at (chain table first (inForce c k i))))
 
 module _ (h : Holder) (n : ℕ) (Q : Run) (table : List ℕ) (row first k : ℕ) (r : Ready (held (kindOf h) n Q) table row first k) where
   hold-rows : size (treeOf (held (kindOf h) n Q)) ≡ 1 + sizes (treesOf Q)
@@ -139,7 +129,7 @@ module _ (h : Holder) (n : ℕ) (Q : Run) (table : List ℕ) (row first k : ℕ)
         room = omega (arith, r .room);
         small = omega (arith, r .small);
         below = rw around-force (below-fewer table first k k row (row + 1) (r .below) (omega arith) (omega arith));
-        linked = λ e. cc (never-grows h);
+        linked = λ e. cc (no-entry h);
       }
 
   module _ (table₁ : List ℕ) (at₁ row₁ : ℕ) (d : DidAll Q (childrenOf h) table (row + 1) first k 0 table₁ at₁ row₁) where
@@ -151,7 +141,7 @@ module _ (h : Holder) (n : ℕ) (Q : Run) (table : List ℕ) (row first k : ℕ)
     hold-did q table₂ e f =
         let v = held-view (kindOf h) n Q (r .good) in
         let past : row₁ ≡ row + (1 + sizes (treesOf Q)) = omega (arith, d .past) in
-        let under : table₁ ≡ sets table (wordsPerRow * (row + 1)) (layouts (treesOf Q) false (row + 1) (chain table first k)) = rw (never-grows, around-force) at (d .words) in
+        let under : table₁ ≡ sets table (wordsPerRow * (row + 1)) (layouts (treesOf Q) false (row + 1) (chain table first k)) = rw (no-entry, around-force) at (d .words) in
         record {
           words = cc (past, under, lay-hold table (kindOf h) n (treesOf Q) row (chain table first k), v .is);
           place = d .place ∙ sym (v .ends);

@@ -13,9 +13,9 @@ use Rattle.rows.specs.Table.{wordsPerRow, lent, limit}
 use Rattle.format.specs.Tree.{size}
 use Rattle.format.specs.Value.{Reading}
 use Rattle.format.specs.Layout.{layout}
-use Rattle.reader.specs.Registry.{chain}
+use Rattle.registry.specs.Registry.{chain}
 use Rattle.reader.specs.Ready.{Right, treeOf, Ready, Did}
-use Rattle.reader.proofs.Walks.{below-none}
+use Rattle.registry.proofs.Walks.{below-none}
 use Rattle.format.proofs.Layouts.{length-layout}
 
 drop-zeros : (n m : ℕ) → drop {A = ℕ} n (replicate m 0) ≡ replicate (m - n) 0

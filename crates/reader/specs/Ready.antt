@@ -9,9 +9,9 @@ use Rattle.rows.specs.Table.{wordsPerRow, lent, limit}
 use Rattle.format.specs.declared.head.Children.{Children}
 use Rattle.format.specs.declared.head.Children.the-variants.{Plain, Keyed, Growing}
 use Rattle.format.specs.Tree.{Tree, leaf, Trees, none, size, sizes}
-use Rattle.format.specs.Value.{Reading, right, wrong, Run, ran, broke}
-use Rattle.format.specs.Layout.{layout, layouts}
-use Rattle.reader.specs.Registry.{walk, chain, Below}
+use Rattle.format.specs.Value.{Reading, right, wrong, Run, ran, broke, inForce}
+use Rattle.format.specs.Layout.{isEntry, layout, layouts}
+use Rattle.registry.specs.Registry.{walk, chain, Below}
 
 -- ---- a right reading: its tree, and the place behind it
 
@@ -56,27 +56,16 @@ pub record Did (P : Reading) (table : List ℕ) (row first k : ℕ) (table' : Li
 
 -- ---- positions in a row, the first of them number i of what holds them, which has k entries in force around it
 
--- "While entry i of a declaration is read, entries 0..i-1 of that declaration are in force and nothing outside it"
-abbrev pub inForce : Children → ℕ → ℕ → ℕ
-inForce Plain k i = k
-inForce Keyed k i = k
-inForce Growing k i = i
-
-abbrev pub grows : Children → Bool
-grows Plain = false
-grows Keyed = false
-grows Growing = true
-
 -- where they are entries, the last one in force ends at `row`
 pub record ReadyAll (Q : Run) (c : Children) (table : List ℕ) (row first k i : ℕ) : Type 0 where
   pub good : Ran Q
   pub room : row + sizes (treesOf Q) ≤ lent table
   pub small : row + sizes (treesOf Q) ≤ limit
   pub below : Below table first (inForce c k i) row
-  pub linked : (grows c ≡ true → walk table first (inForce c k i) ≡ row)
+  pub linked : (isEntry c ≡ true → walk table first (inForce c k i) ≡ row)
 
 pub record DidAll (Q : Run) (c : Children) (table : List ℕ) (row first k i : ℕ) (table' : List ℕ) (at' row' : ℕ) : Type 0 where
-  pub words : table' ≡ sets table (wordsPerRow * row) (layouts (treesOf Q) (grows c) row (chain table first (inForce c k i)))
+  pub words : table' ≡ sets table (wordsPerRow * row) (layouts (treesOf Q) (isEntry c) row (chain table first (inForce c k i)))
   pub place : at' ≡ nextsOf Q
   pub past : row' ≡ row + sizes (treesOf Q)
 

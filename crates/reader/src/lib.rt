@@ -12,7 +12,6 @@ ghost use Rattle.format.specs.Value.{document};
 ghost use Rattle.format.specs.Answer.{depthLimit, answer, tableAfter};
 ghost use Rattle.reader.specs.Ready.{Right, treeOf};
 
-mod entry;
 mod fill;
 mod filled;
 mod leaf;

@@ -7,10 +7,9 @@ ghost use Rattle.rows.specs.Kinds.{referenceRow, damagedRow};
 ghost use Rattle.format.specs.Head.{keyAt};
 ghost use Rattle.format.specs.Value.{leafOf, keyed};
 ghost use Rattle.format.specs.Layout.{layout};
-ghost use Rattle.reader.specs.Registry.{walk, Below};
+ghost use Rattle.registry.specs.Registry.{walk, Below};
 ghost use Rattle.reader.specs.Sane.{Sane};
 ghost use Rattle.reader.specs.Ready.{Ready, Did, Laid};
-use crate::entry::entry_row;
 use crate::filled::Filled;
 use crate::leaf::leaf_row;
 use format::Content;
@@ -37,7 +36,7 @@ pub fn fill_reference(
     requires { ⌜ (row < lent (now table)) × (row < limit) × (number ≤ limit) × Below (now table) first number row × (walk (now table) first number ≤ limit) ⌝ }
     ensures { λ r. ⌜ Laid (now (table .entry)) row (wordsOf (referenceRow row number (walk (now (table .entry)) first number))) next (now (table .exit)) (r .next) (r .row) ⌝ }
 {
-    let entry = entry_row(table, first, number, row);
+    let entry = registry::entry_row(table, first, number, row);
     rows::lay(table, row, Row::reference(row, number, entry));
     Filled { next, row: row + 1 }
 }

@@ -10,7 +10,7 @@ use lib.Seq.{sets, getD-at}
 use Rattle.rows.specs.declared.row.Row.{Row}
 use Rattle.rows.specs.Table.{wordsPerRow, rowAt, lent}
 use Rattle.rows.proofs.Rows.{row-sets-behind}
-use Rattle.reader.specs.Registry.{walk, chain, Below}
+use Rattle.registry.specs.Registry.{walk, chain, Below}
 
 -- ---- a step of a walk
 
@@ -57,6 +57,28 @@ chain-at table first (suc k) n h = go (chain-at table first k n) (decLt n k)
     go again (no ge) =
         let e : k ≡ n = omega arith in
         getD-at (chain table first k) (walk table first k) [] 0 n (length-chain table first k ∙ e) ∙ ap (walk table first) e
+
+-- ---- one entry more
+
+-- the ends of k entries lead to `row`
+module _ (table : List ℕ) (first k row : ℕ) (linked : walk table first k ≡ row) where
+  pub chain-grown : chain table first (k + 1) ≡ chain table first k ++ (row ∷ [])
+  unfolding chain
+  chain-grown = ap (chain table first) (add-one k) ∙ ap (λ (w : ℕ). chain table first k ++ (w ∷ [])) linked
+
+  pub walk-grown : (next : ℕ) → rowAt table row .end ≡ next → walk table first (k + 1) ≡ next
+  unfolding walk
+  walk-grown next end = ap (walk table first) (add-one k) ∙ ap (λ (w : ℕ). rowAt table w .end) linked ∙ end
+
+  pub below-grown : (next : ℕ) → Below table first k row → row < next → Below table first (k + 1) next
+  unfolding Below
+  below-grown next below h i lt = go (decLt i k)
+    where
+      go : Dec (i < k) → walk table first i < next
+      go (yes before) = omega (arith, below i before)
+      go (no last) =
+          let e : i ≡ k = omega arith in
+          omega (arith, ap (walk table first) e, linked)
 
 -- ---- words laid from `row` on leave the ends of the rows before it
 

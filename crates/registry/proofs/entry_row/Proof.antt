@@ -1,11 +1,11 @@
--- `reader::entry::entry_row` meets its contract. The invariant: `at` is the row that i ends lead to. Assumes nothing.
+-- `registry::entry_row` meets its contract. The invariant: `at` is the row that i ends lead to. Assumes nothing.
 use mathlib.Core.Path.{_≡_}
 use Prim.Native.Nat.{_-_, _≤_}
 use borrow.Author.Needs.{needs}
-use Rattle.reader.specs.Registry.{walk}
-use Rattle.reader.proofs.Walks.{walk-start, walk-next, walk-done, walk-lent}
-use Rattle.reader.proofs.entry.entry_row.Statement.{statement}
-use Rattle.reader.proofs.entry.entry_row.Tie as tie
+use Rattle.registry.specs.Registry.{walk}
+use Rattle.registry.proofs.Walks.{walk-start, walk-next, walk-done, walk-lent}
+use Rattle.registry.proofs.entry_row.Statement.{statement}
+use Rattle.registry.proofs.entry_row.Tie as tie
 
 abbrev Inv-loop : tie.InvT-loop
 Inv-loop table first n row at₀ i₀ at i = (i ≤ n) × (at ≡ walk table first i)

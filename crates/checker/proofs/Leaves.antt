@@ -1,0 +1,138 @@
+-- Rows that have no child, a law for each way out of the code. Assumes nothing.
+use mathlib.Core.Path.{_≡_, refl, sym, ap, ap₂, _∙_}
+use mathlib.Core.Bool.{Bool, true, false, cond, _&&_}
+use mathlib.Core.List.{List}
+use Prim.Native.Nat.{ℕ, _+_, _≤_, _<_}
+use native.Mathlib.Omega.{arith}
+use lib.ListN.{length, getD}
+use lib.Dec.{ltb, eqb}
+use borrow.Author.Tests.{lt-ltb, le-ltb, eq-eqb, ne-eqb}
+use Rattle.rows.specs.declared.row.Row.{Row}
+use Rattle.rows.specs.Table.{rowAt}
+use Rattle.rows.specs.Kinds.{kindKey}
+use Rattle.registry.specs.Registry.{walk, chain, Below}
+use Rattle.registry.proofs.Walks.{below-fewer, length-chain, chain-at}
+use Rattle.format.specs.declared.refusal.Refusal.{Refusal}
+use Rattle.format.specs.declared.refusal.Refusal.the-variants as why
+use Rattle.format.specs.Refusal.{numberOf as refusalNumber}
+use Rattle.format.specs.Tree.{Tree}
+use Rattle.format.specs.Value.{Reading, right, wrong, inForeign, value, ended, whole}
+use Rattle.measure.specs.declared.measured.Measured.{Measured}
+use Rattle.measure.specs.declared.measured.Measured.the-variants as measured
+use Rattle.measure.specs.Measured.{measuredOf}
+use Rattle.rules.specs.Shape.{spelt}
+use Rattle.rules.specs.Grow.{Growth, grew, bad, endsAt, leafAt, keyRow, growKey, referred, damaged}
+use Rattle.checker.specs.declared.grown.Grown.{Grown}
+use Rattle.checker.specs.declared.grown.Grown.the-variants.{Up, Not}
+use Rattle.checker.specs.Safe.{grownOf, endingAt}
+
+-- ---- where a row ends
+
+pub ends-yes : (end next e : ℕ) (g : Grown) → g ≡ Up next → e ≡ end → next ≡ e → Up next ≡ endingAt end g
+ends-yes end next e g q f h = rw (q, eq-eqb next end (h ∙ f))
+
+pub ends-other : (end next e : ℕ) (g : Grown) → g ≡ Up next → e ≡ end → (next ≡ e → ⊥) → Not ≡ endingAt end g
+ends-other end next e g q f h = rw (q, ne-eqb next end (λ x. h (x ∙ sym f)))
+
+-- the same of what grows
+pub ends-grown : (end : ℕ) (g : Growth) → grownOf (endsAt end g) ≡ endingAt end (grownOf g)
+ends-grown end (grew t next) = go (eqb next end)
+  where
+    go : (b : Bool) → grownOf (cond b (grew t next) bad) ≡ cond b (Up next) Not
+    go true = refl
+    go false = refl
+ends-grown end bad = refl
+
+-- ---- a key
+
+module _ (s : List ℕ) (row : ℕ) (w : Row) where
+  pub key-other : (w .kind ≡ kindKey → ⊥) → Not ≡ grownOf (keyRow s row w)
+  key-other h = rw (ne-eqb (w .kind) kindKey h)
+
+  module _ (is : w .kind ≡ kindKey) (b : Bool) (words : b ≡ spelt s (w .w0) (w .w1) (w .w2) (w .w3)) where
+    told : (v : Bool) → b ≡ v → eqb (w .kind) kindKey && spelt s (w .w0) (w .w1) (w .w2) (w .w3) ≡ v
+    told v e = rw (eq-eqb (w .kind) kindKey is) (sym words ∙ e)
+
+    pub key-yes : (r : Grown) → b ≡ true → r ≡ endingAt (w .end) (Up (row + 1)) → r ≡ grownOf (keyRow s row w)
+    key-yes r e f = rw (told true e) (f ∙ sym (ends-grown (w .end) (grew (leafAt w) (row + 1))))
+
+    pub key-no : b ≡ false → Not ≡ grownOf (keyRow s row w)
+    key-no e = rw (told false e)
+
+pub key-in : (table : List ℕ) (n : ℕ) (s : List ℕ) (row : ℕ) (w : Row) (r : Grown) → row < n → w ≡ rowAt table row → r ≡ grownOf (keyRow s row w) → r ≡ grownOf (growKey table n s row)
+unfolding growKey
+key-in table n s row w r h q e = rw (lt-ltb row n h, ← q) e
+
+pub key-out : (table : List ℕ) (n : ℕ) (s : List ℕ) (row : ℕ) → n ≤ row → Not ≡ grownOf (growKey table n s row)
+unfolding growKey
+key-out table n s row h = rw (le-ltb row n h)
+
+-- ---- a reference
+
+pub number-below : (table : List ℕ) (first k n w row : ℕ) → Below table first k row → n ≡ w → n < k → Below table first n row
+number-below table first k n w row b e l = below-fewer table first k n row row b (omega arith) (omega arith)
+
+module _ (table : List ℕ) (first k row : ℕ) (w : Row) (number : ℕ) (is : number ≡ w .w0) where
+  A : Bool
+  A = ltb (w .w0) (length (chain table first k))
+
+  known : number < k → A ≡ true
+  unfolding A
+  known l = lt-ltb (w .w0) (length (chain table first k)) (omega (arith, length-chain table first k))
+
+  module _ (l : number < k) (entry said : ℕ) (at : entry ≡ walk table first number) (f : said ≡ w .w1) where
+    row-of : getD (chain table first k) (w .w0) 0 ≡ entry
+    row-of = chain-at table first k (w .w0) (omega arith) ∙ ap (walk table first) (sym is) ∙ sym at
+
+    pub refer-yes : said ≡ entry → Up (row + 1) ≡ grownOf (referred (chain table first k) row w)
+    unfolding A
+    refer-yes e = rw (known l, eq-eqb (w .w1) (getD (chain table first k) (w .w0) 0) (sym f ∙ e ∙ sym row-of))
+
+    pub refer-other : (said ≡ entry → ⊥) → Not ≡ grownOf (referred (chain table first k) row w)
+    unfolding A
+    refer-other e = rw (known l, ne-eqb (w .w1) (getD (chain table first k) (w .w0) 0) (λ x. e (f ∙ x ∙ row-of)))
+
+  pub refer-out : k ≤ number → Not ≡ grownOf (referred (chain table first k) row w)
+  refer-out l = rw (le-ltb (w .w0) (length (chain table first k)) (omega (arith, length-chain table first k)))
+
+-- ---- a damaged body
+
+module _ (row : ℕ) (w : Row) (e : Refusal) (place v : ℕ) (is : v ≡ refusalNumber e) where
+  pub verdict-yes : w .w2 ≡ v → Up (row + 1) ≡ grownOf (damaged row w (wrong e place))
+  verdict-yes h = rw (eq-eqb (w .w2) (refusalNumber e) (h ∙ is))
+
+  pub verdict-no : (w .w2 ≡ v → ⊥) → Not ≡ grownOf (damaged row w (wrong e place))
+  verdict-no h = rw (ne-eqb (w .w2) (refusalNumber e) (λ x. h (x ∙ sym is)))
+
+body-whole : (row : ℕ) (w : Row) (stop : ℕ) (x : Reading) (r next : ℕ) → measuredOf x ≡ measured.Right r next → next ≡ stop → Not ≡ grownOf (damaged row w (whole stop x))
+body-whole row w stop (right t m) r next e h = let i : m ≡ stop = cc in rw (eq-eqb m stop i)
+body-whole row w stop (wrong y p) r next e h = cc
+
+body-extra : (stop : ℕ) (x : Reading) (r next : ℕ) → measuredOf x ≡ measured.Right r next → (next ≡ stop → ⊥) → whole stop x ≡ wrong why.Extra next
+body-extra stop (right t m) r next e h = let i : m ≡ next = cc in rw (i, ne-eqb next stop h)
+body-extra stop (wrong y p) r next e h = cc
+
+body-wrong : (stop : ℕ) (x : Reading) (y : Refusal) (p : ℕ) → measuredOf x ≡ measured.Wrong y p → whole stop x ≡ wrong y p
+body-wrong stop (right t m) y p e = cc
+body-wrong stop (wrong u q) y p e = cc
+
+module _ (s : List ℕ) (row d around k place size : ℕ) (w : Row) (in-force : k ≡ inForeign around) (f : place ≡ w .w0) (g : size ≡ w .w1) (m : Measured)
+    (read : m ≡ measuredOf (value d s k place (place + size))) where
+  abbrev x : Reading
+  x = value d s (inForeign around) (w .w0) (w .w0 + w .w1)
+
+  there : m ≡ measuredOf x
+  there = read ∙ ap₂ (λ (a b : ℕ). measuredOf (value d s k a (a + b))) f g ∙ ap (λ (a : ℕ). measuredOf (value d s a (w .w0) (w .w0 + w .w1))) in-force
+
+  ends : place + size ≡ w .w0 + w .w1
+  ends = ap₂ (λ (a b : ℕ). a + b) f g
+
+  pub damaged-whole : (r next : ℕ) → m ≡ measured.Right r next → next ≡ place + size → Not ≡ grownOf (damaged row w (whole (w .w0 + w .w1) x))
+  damaged-whole r next e h = body-whole row w (w .w0 + w .w1) x r next (sym there ∙ e) (h ∙ ends)
+
+  pub damaged-extra : (r next : ℕ) (q : Grown) → m ≡ measured.Right r next → (next ≡ place + size → ⊥) → q ≡ grownOf (damaged row w (wrong why.Extra next))
+      → q ≡ grownOf (damaged row w (whole (w .w0 + w .w1) x))
+  damaged-extra r next q e h j = j ∙ sym (ap (λ (z : Reading). grownOf (damaged row w z)) (body-extra (w .w0 + w .w1) x r next (sym there ∙ e) (λ z. h (z ∙ sym ends))))
+
+  pub damaged-wrong : (y : Refusal) (p : ℕ) (q : Grown) → m ≡ measured.Wrong y p → q ≡ grownOf (damaged row w (wrong y p)) → q ≡ grownOf (damaged row w (whole (w .w0 + w .w1) x))
+  damaged-wrong y p q e j = j ∙ sym (ap (λ (z : Reading). grownOf (damaged row w z)) (body-wrong (w .w0 + w .w1) x y p (sym there ∙ e)))

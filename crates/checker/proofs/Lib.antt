@@ -1,0 +1,4 @@
+-- Laws that belong to no one function.
+pub mod Leaves
+pub mod Checks
+pub mod Answers

@@ -1,0 +1,38 @@
+-- `checker::one::check_reference` meets its contract. Assumes nothing.
+use borrow.Author.Needs.{needs}
+use Rattle.checker.proofs.Leaves.{number-below, refer-yes, refer-other, refer-out}
+use Rattle.checker.proofs.one.check_reference.Statement.{statement}
+use Rattle.checker.proofs.one.check_reference.Tie as tie
+
+number-requires : tie.Need-number-requires
+number-requires c κs = search needs
+
+entry-row-requires : tie.Need-entry-row-requires
+entry-row-requires c κs = (search needs, search number-below)
+
+number-requires-2 : tie.Need-number-requires-2
+number-requires-2 c κs = search needs
+
+add-t11 : tie.Need-add-t11
+add-t11 c = search needs
+
+returns : tie.Need-returns
+returns c = search refer-yes
+
+returns-2 : tie.Need-returns-2
+returns-2 c = search refer-other
+
+returns-3 : tie.Need-returns-3
+returns-3 c = search refer-out
+
+pub check-reference-spec : {M : Type 1} → statement M
+check-reference-spec =
+    tie.close
+    (tie.spec
+    number-requires
+    entry-row-requires
+    number-requires-2
+    add-t11
+    returns
+    returns-2
+    returns-3)

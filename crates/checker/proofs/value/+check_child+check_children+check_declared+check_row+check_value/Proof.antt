@@ -1,0 +1,237 @@
+-- `checker::value`: check_value, check_child and the functions between them meet their contracts. The measure is the levels left, and within a
+-- level the way from a row to its children to one child. A law of Checks answers each way out. Assumes nothing.
+use Prim.Native.Nat.{ℕ, _+_, _*_, _-_, _<_}
+use borrow.Author.Needs.{needs}
+use Rattle.checker.proofs.Checks.{child-growing, child-key, child-plain, child-value, damaged-inside, declared-not, declared-up, entries-ask, going-all, going-first, going-next, going-not, going-safe, Going, growing-asks, hold-asks, keyed-asks, own-asks, plain-asks, row-bad, row-damaged, row-declare, row-hold, row-leaf, row-refer, row-whole, safe-lent, value-deep, value-in, value-out, whole-asks}
+use borrow.Fn.Kinds.{In}
+use borrow.Fn.PlainCycle.{Measures, is, falls, and}
+use Rattle.checker.proofs.value.check_child.Reads as check-child
+use Rattle.checker.proofs.value.check_child.Kinds as check-child-kinds
+use Rattle.checker.proofs.value.+check_child+check_children+check_declared+check_row+check_value.Lts-check_child as check-child-lts
+use Rattle.checker.proofs.value.check_children.Reads as check-children
+use Rattle.checker.proofs.value.check_children.Kinds as check-children-kinds
+use Rattle.checker.proofs.value.+check_child+check_children+check_declared+check_row+check_value.Lts-check_children as check-children-lts
+use Rattle.checker.proofs.value.check_declared.Reads as check-declared
+use Rattle.checker.proofs.value.check_declared.Kinds as check-declared-kinds
+use Rattle.checker.proofs.value.+check_child+check_children+check_declared+check_row+check_value.Lts-check_declared as check-declared-lts
+use Rattle.checker.proofs.value.check_row.Reads as check-row
+use Rattle.checker.proofs.value.check_row.Kinds as check-row-kinds
+use Rattle.checker.proofs.value.+check_child+check_children+check_declared+check_row+check_value.Lts-check_row as check-row-lts
+use Rattle.checker.proofs.value.check_value.Reads as check-value
+use Rattle.checker.proofs.value.check_value.Kinds as check-value-kinds
+use Rattle.checker.proofs.value.+check_child+check_children+check_declared+check_row+check_value.Lts-check_value as check-value-lts
+use Rattle.checker.proofs.one.check_damaged.Reads as check-damaged-reads
+use Rattle.checker.proofs.one.check_key.Reads as check-key-reads
+use Rattle.checker.proofs.one.check_reference.Reads as check-reference-reads
+use Rattle.checker.proofs.one.ends_at.Reads as ends-at-reads
+use Rattle.format.proofs.head.Holder.children.Reads as children-reads
+use Rattle.format.proofs.head.Holder.reading.Reads as reading-reads
+use Rattle.rows.proofs.number.Reads as number-reads
+use Rattle.rows.proofs.row_at.Reads as row-at-reads
+use Rattle.rules.proofs.shape_of.Reads as shape-of-reads
+use Rattle.checker.proofs.value.+check_child+check_children+check_declared+check_row+check_value.{
+  statement,
+}
+use Rattle.checker.proofs.value.+check_child+check_children+check_declared+check_row+check_value.Tie.{
+  close,
+}
+
+abbrev μ-check-child : Measures 2 check-child-kinds.ps ℕ
+μ-check-child κs a = 5 * a .1 .1 .1 .1 .0 + 1
+
+abbrev μ-check-children : Measures 2 check-children-kinds.ps ℕ
+μ-check-children κs a = 5 * a .1 .1 .1 .1 .0 + 2
+
+abbrev μ-check-declared : Measures 2 check-declared-kinds.ps ℕ
+μ-check-declared κs a = 5 * a .1 .1 .1 .1 .0 + 3
+
+abbrev μ-check-row : Measures 2 check-row-kinds.ps ℕ
+μ-check-row κs a = 5 * a .1 .1 .1 .1 .0 + 4
+
+abbrev μ-check-value : Measures 2 check-value-kinds.ps ℕ
+μ-check-value κs a = 5 * a .1 .1 .1 .1 .0
+
+abbrev check-child-at : ℕ → In 2 check-child-kinds.ps
+check-child-at t =
+    and 2 check-child-kinds.ps (is 2 check-child-kinds.ps μ-check-child t) check-child.Pre
+
+abbrev check-child-below : ℕ → In 2 check-child-kinds.ps
+check-child-below t =
+    and 2 check-child-kinds.ps (falls 2 check-child-kinds.ps _<_ μ-check-child t) check-child.Pre
+
+abbrev check-children-at : ℕ → In 2 check-children-kinds.ps
+check-children-at t =
+    and
+    2
+    check-children-kinds.ps
+    (is 2 check-children-kinds.ps μ-check-children t)
+    check-children.Pre
+
+abbrev check-children-below : ℕ → In 2 check-children-kinds.ps
+check-children-below t =
+    and
+    2
+    check-children-kinds.ps
+    (falls 2 check-children-kinds.ps _<_ μ-check-children t)
+    check-children.Pre
+
+abbrev check-declared-at : ℕ → In 2 check-declared-kinds.ps
+check-declared-at t =
+    and
+    2
+    check-declared-kinds.ps
+    (is 2 check-declared-kinds.ps μ-check-declared t)
+    check-declared.Pre
+
+abbrev check-declared-below : ℕ → In 2 check-declared-kinds.ps
+check-declared-below t =
+    and
+    2
+    check-declared-kinds.ps
+    (falls 2 check-declared-kinds.ps _<_ μ-check-declared t)
+    check-declared.Pre
+
+abbrev check-row-at : ℕ → In 2 check-row-kinds.ps
+check-row-at t = and 2 check-row-kinds.ps (is 2 check-row-kinds.ps μ-check-row t) check-row.Pre
+
+abbrev check-row-below : ℕ → In 2 check-row-kinds.ps
+check-row-below t =
+    and 2 check-row-kinds.ps (falls 2 check-row-kinds.ps _<_ μ-check-row t) check-row.Pre
+
+abbrev check-value-at : ℕ → In 2 check-value-kinds.ps
+check-value-at t =
+    and 2 check-value-kinds.ps (is 2 check-value-kinds.ps μ-check-value t) check-value.Pre
+
+abbrev check-value-below : ℕ → In 2 check-value-kinds.ps
+check-value-below t =
+    and 2 check-value-kinds.ps (falls 2 check-value-kinds.ps _<_ μ-check-value t) check-value.Pre
+
+abbrev check-children-Inv-loop : check-children-lts.InvT-loop
+check-children-Inv-loop table n s row levels first around children count i₀ here₀ i here =
+    Going levels table n s first around children count row i here
+
+abbrev check-children-μ-loop : check-children-lts.MeasureT-loop
+check-children-μ-loop table n s row levels first around children count i₀ here₀ i here = count - i
+
+pub +check-child+check-children+check-declared+check-row+check-value-spec :
+    {M : Type 1} → statement M
++check-child+check-children+check-declared+check-row+check-value-spec =
+    close
+    μ-check-child
+    μ-check-children
+    μ-check-declared
+    μ-check-row
+    μ-check-value
+    (λ t. check-child-lts.spec (
+      check-value-below t,
+      check-value.Post,
+      check-key-reads.Asked,
+      check-key-reads.Learnt,
+    )
+    (check-child-at t)
+    check-child.Post
+    (λ c. search needs)
+    (λ c κs. (search needs, search plain-asks))
+    (λ c. search needs)
+    (λ c κs. search needs)
+    (λ c. search child-key)
+    (λ c κs. (search needs, search keyed-asks))
+    (λ c. search needs)
+    (λ c κs. (search needs, search growing-asks))
+    (λ c. search child-plain)
+    (λ c. search child-value)
+    (λ c. search child-growing))
+    (λ t. check-children-lts.spec
+    (check-child-below t, check-child.Post)
+    (check-children-at t)
+    check-children.Post
+    check-children-Inv-loop
+    check-children-μ-loop
+    (λ c. search going-first)
+    (λ c κs. (search needs, search going-safe))
+    (λ c. search needs)
+    (λ c. search needs)
+    (λ c. search needs)
+    (λ c. search going-next)
+    (λ c. search needs)
+    (λ c. search going-not)
+    (λ c. search going-all))
+    (λ t. check-declared-lts.spec (
+      check-children-below t,
+      check-children.Post,
+      check-value-below t,
+      check-value.Post,
+    )
+    (check-declared-at t)
+    check-declared.Post
+    (λ c κs. (search needs, search entries-ask))
+    (λ c. search needs)
+    (λ c κs. (search needs, search own-asks))
+    (λ c. search needs)
+    (λ c. search declared-up)
+    (λ c. search declared-not))
+    (λ t. check-row-lts.spec (
+      check-reference-reads.Asked,
+      check-reference-reads.Learnt,
+      number-reads.Asked,
+      number-reads.Learnt,
+      children-reads.Asked,
+      children-reads.Learnt,
+      reading-reads.Asked,
+      reading-reads.Learnt,
+      check-children-below t,
+      check-children.Post,
+      check-declared-below t,
+      check-declared.Post,
+      check-damaged-reads.Asked,
+      check-damaged-reads.Learnt,
+    )
+    (check-row-at t)
+    check-row.Post
+    (λ c. search needs)
+    (λ c. search needs)
+    (λ c. search needs)
+    (λ c. search needs)
+    (λ c κs. (search safe-lent, search needs, search needs))
+    (λ c. search needs)
+    (λ c κs. search needs)
+    (λ c κs. search needs)
+    (λ c κs. search needs)
+    (λ c. search needs)
+    (λ c κs. (search needs, search hold-asks))
+    (λ c. search needs)
+    (λ c. search needs)
+    (λ c κs. search needs)
+    (λ c κs. search needs)
+    (λ c. search needs)
+    (λ c. search needs)
+    (λ c κs. (search needs, search whole-asks))
+    (λ c. search needs)
+    (λ c κs. (search needs, search damaged-inside))
+    (λ c. search row-bad)
+    (λ c. search row-leaf)
+    (λ c. search row-refer)
+    (λ c. search row-hold)
+    (λ c. search row-declare)
+    (λ c. search row-whole)
+    (λ c. search row-damaged))
+    λ t. check-value-lts.spec (
+      row-at-reads.Asked,
+      row-at-reads.Learnt,
+      shape-of-reads.Asked,
+      shape-of-reads.Learnt,
+      check-row-below t,
+      check-row.Post,
+      ends-at-reads.Asked,
+      ends-at-reads.Learnt,
+    )
+    (check-value-at t)
+    check-value.Post
+    (λ c. search value-deep)
+    (λ c. search value-out)
+    (λ c κs. search needs)
+    (λ c κs. search needs)
+    (λ c. search needs)
+    (λ c κs. search needs)
+    (λ c κs. search needs)
+    (λ c. search value-in)

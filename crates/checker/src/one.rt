@@ -1,0 +1,99 @@
+// Rows that have no child.
+ghost use mathlib.Core.Path.{_≡_};
+ghost use Prim.Native.Nat.{_+_, _≤_, _<_};
+ghost use lib.ListN.{length};
+ghost use Rattle.rows.specs.Table.{lent, limit};
+ghost use Rattle.registry.specs.Registry.{chain, Below};
+ghost use Rattle.format.specs.Value.{inForeign, value, whole, wrong};
+ghost use Rattle.rules.specs.Grow.{keyRow, growKey, referred, damaged};
+ghost use Rattle.checker.specs.Safe.{grownOf, endingAt};
+use crate::grown::Grown;
+use format::Refusal;
+use measure::Measured;
+use rows::Row;
+
+// A row ends where what it holds does.
+pub fn ends_at(end: u32, g: Grown) -> Grown
+    ensures { λ r. ⌜ r ≡ endingAt end g ⌝ }
+{
+    match g {
+        Grown::Up { next } => {
+            if next == rows::number(end) {
+                return Grown::Up { next };
+            }
+            Grown::Not
+        }
+        Grown::Not => Grown::Not,
+    }
+}
+
+// A record's key, by its words.
+fn key_row(s: &[u8], row: usize, w: Row) -> Grown
+    requires { ⌜ row < limit ⌝ }
+    ensures { λ r. ⌜ r ≡ grownOf (keyRow (now (s .entry)) row w) ⌝ }
+{
+    if w.kind != Row::KEY {
+        return Grown::Not;
+    }
+    if rules::spelt(s, w.w0, w.w1, w.w2, w.w3) {
+        return ends_at(w.end, Grown::Up { next: row + 1 });
+    }
+    Grown::Not
+}
+
+// A record's key, at `row`.
+pub fn check_key(table: &[u32], n: usize, s: &[u8], row: usize) -> Grown
+    requires { ⌜ (n ≤ lent (now table)) × (n ≤ limit) ⌝ }
+    ensures { λ r. ⌜ r ≡ grownOf (growKey (now (table .entry)) n (now (s .entry)) row) ⌝ }
+{
+    if row < n {
+        return key_row(s, row, rows::row_at(table, row));
+    }
+    Grown::Not
+}
+
+// A reference: its entry is in force, and stands at the row that it says.
+pub fn check_reference(table: &[u32], row: usize, first: usize, around: usize, w: Row) -> Grown
+    requires { ⌜ (row ≤ lent (now table)) × (row < limit) × Below (now table) first around row ⌝ }
+    ensures { λ r. ⌜ r ≡ grownOf (referred (chain (now (table .entry)) first around) row w) ⌝ }
+{
+    let number = rows::number(w.w0);
+    if number < around {
+        let entry = registry::entry_row(table, first, number, row);
+        if rows::number(w.w1) == entry {
+            return Grown::Up { next: row + 1 };
+        }
+        return Grown::Not;
+    }
+    Grown::Not
+}
+
+// The verdict of a damaged body is what reading it gave.
+fn verdict_is(row: usize, w: Row, why: Refusal, place: usize) -> Grown
+    requires { ⌜ row < limit ⌝ }
+    ensures { λ r. ⌜ r ≡ grownOf (damaged row w (wrong why place)) ⌝ }
+{
+    if w.w2 == why.number() {
+        return Grown::Up { next: row + 1 };
+    }
+    Grown::Not
+}
+
+// A damaged foreign body: its bytes are measured where they stand.
+pub fn check_damaged(s: &[u8], row: usize, levels: usize, around: usize, w: Row) -> Grown
+    requires { ⌜ (row < limit) × (w .w0 + w .w1 ≤ length (now s)) ⌝ }
+    ensures { λ r. ⌜ r ≡ grownOf (damaged row w (whole (w .w0 + w .w1) (value levels (now (s .entry)) (inForeign around) (w .w0) (w .w0 + w .w1)))) ⌝ }
+{
+    let place = rows::number(w.w0);
+    let end = place + rows::number(w.w1);
+    let m = measure::measure_value(s, place, end, levels, format::in_foreign(around));
+    match m {
+        Measured::Right { rows: _, next } => {
+            if next == end {
+                return Grown::Not;
+            }
+            verdict_is(row, w, Refusal::Extra, next)
+        }
+        Measured::Wrong { why, place: found } => verdict_is(row, w, why, found),
+    }
+}

@@ -1,0 +1,165 @@
+// Value checking calls child checking, which calls value checking again, the levels left falling at each round.
+ghost use mathlib.Core.Path.{_≡_};
+ghost use mathlib.Core.List.{[]};
+ghost use Prim.Native.Nat.{_+_, _≤_, _<_};
+ghost use Rattle.rows.specs.Table.{lent, limit};
+ghost use Rattle.registry.specs.Registry.{chain};
+ghost use Rattle.format.specs.declared.head.Children.the-variants.{Growing};
+ghost use Rattle.format.specs.Value.{inForce};
+ghost use Rattle.rules.specs.Shape.{shapeOf};
+ghost use Rattle.rules.specs.Grow.{isKey, item, grows, declared, byShape, grow};
+ghost use Rattle.checker.specs.Safe.{Safe, SafeAll, grownOf, grownAll};
+use crate::grown::Grown;
+use crate::one::check_damaged;
+use crate::one::check_key;
+use crate::one::check_reference;
+use crate::one::ends_at;
+use format::Children;
+use rows::Row;
+use rules::Shape;
+
+// One value position, from its own row on; `levels` are left, its own with them, and the first of the `around` entries in force stands at `first`.
+pub fn check_value(
+    table: &[u32],
+    n: usize,
+    s: &[u8],
+    row: usize,
+    levels: usize,
+    first: usize,
+    around: usize,
+) -> Grown
+    requires { ⌜ Safe (now table) n first around row ⌝ }
+    ensures { λ r. ⌜ r ≡ grownOf (grow levels (now (table .entry)) n (now (s .entry)) (chain (now (table .entry)) first around) row) ⌝ }
+{
+    if levels == 0 {
+        return Grown::Not;
+    }
+    if n <= row {
+        return Grown::Not;
+    }
+    let w = rows::row_at(table, row);
+    let shape = rules::shape_of(s, w);
+    let g = check_row(table, n, s, row, levels - 1, first, around, w, shape);
+    ends_at(w.end, g)
+}
+
+// A row by its shape; below it `levels` are left.
+fn check_row(
+    table: &[u32],
+    n: usize,
+    s: &[u8],
+    row: usize,
+    levels: usize,
+    first: usize,
+    around: usize,
+    w: Row,
+    shape: Shape,
+) -> Grown
+    requires { ⌜ Safe (now table) n first around row × (row < n) ⌝ }
+    requires { ⌜ shape ≡ shapeOf (now s) (w .kind) (w .w0) (w .w1) (w .w2) (w .w3) ⌝ }
+    ensures { λ r. ⌜ r ≡ grownOf (byShape (grow levels (now (table .entry)) n (now (s .entry))) levels (now (table .entry)) n (now (s .entry)) (chain (now (table .entry)) first around) row w shape) ⌝ }
+{
+    match shape {
+        Shape::Bad => Grown::Not,
+        Shape::Leaf => Grown::Up { next: row + 1 },
+        Shape::Refer => check_reference(table, row, first, around, w),
+        Shape::Hold { holder } => {
+            let count = holder.children(rows::number(w.w0));
+            let c = holder.reading();
+            check_children(table, n, s, row + 1, levels, first, around, c, count)
+        }
+        Shape::Declare => { check_declared(table, n, s, row + 1, levels, rows::number(w.w0)) }
+        Shape::Whole => {
+            check_children(
+                table,
+                n,
+                s,
+                row + 1,
+                levels,
+                first,
+                around,
+                Children::Plain,
+                1,
+            )
+        }
+        Shape::Damaged => check_damaged(s, row, levels, around, w),
+    }
+}
+
+// A declaration's entries from `row` on, and its value behind them.
+fn check_declared(
+    table: &[u32],
+    n: usize,
+    s: &[u8],
+    row: usize,
+    levels: usize,
+    count: usize,
+) -> Grown
+    requires { ⌜ (n ≤ lent (now table)) × (n ≤ limit) × (row ≤ n) ⌝ }
+    ensures { λ r. ⌜ r ≡ grownOf (declared (grow levels (now (table .entry)) n (now (s .entry))) count row (grows (grow levels (now (table .entry)) n (now (s .entry))) Growing (now (table .entry)) n (now (s .entry)) [] 0 count row)) ⌝ }
+{
+    let es = check_children(table, n, s, row, levels, row, 0, Children::Growing, count);
+    match es {
+        Grown::Up { next } => check_value(table, n, s, next, levels, row, count),
+        Grown::Not => Grown::Not,
+    }
+}
+
+// Child number i of a holder.
+fn check_child(
+    table: &[u32],
+    n: usize,
+    s: &[u8],
+    row: usize,
+    levels: usize,
+    first: usize,
+    around: usize,
+    children: Children,
+    i: usize,
+) -> Grown
+    requires { ⌜ Safe (now table) n first (inForce children around i) row ⌝ }
+    ensures { λ r. ⌜ r ≡ grownOf (item (isKey children i) (grow levels (now (table .entry)) n (now (s .entry))) (now (table .entry)) n (now (s .entry)) (chain (now (table .entry)) first (inForce children around i)) row) ⌝ }
+{
+    match children {
+        Children::Plain => check_value(table, n, s, row, levels, first, around),
+        Children::Keyed => {
+            if i % 2 == 0 {
+                return check_key(table, n, s, row);
+            }
+            check_value(table, n, s, row, levels, first, around)
+        }
+        Children::Growing => check_value(table, n, s, row, levels, first, i),
+    }
+}
+
+// count children, back to back.
+fn check_children(
+    table: &[u32],
+    n: usize,
+    s: &[u8],
+    row: usize,
+    levels: usize,
+    first: usize,
+    around: usize,
+    children: Children,
+    count: usize,
+) -> Grown
+    requires { ⌜ SafeAll (now table) n first around children 0 row ⌝ }
+    ensures { λ r. ⌜ r ≡ grownAll (grows (grow levels (now (table .entry)) n (now (s .entry))) children (now (table .entry)) n (now (s .entry)) (chain (now (table .entry)) first (inForce children around 0)) 0 count row) ⌝ }
+{
+    let mut i = 0;
+    let mut here = row;
+    while i < count {
+        let g = check_child(table, n, s, here, levels, first, around, children, i);
+        match g {
+            Grown::Up { next } => {
+                here = next;
+                i += 1;
+            }
+            Grown::Not => {
+                return Grown::Not;
+            }
+        }
+    }
+    Grown::Up { next: here }
+}

@@ -1,0 +1,294 @@
+-- Every tree that is read is right: a law for each kind of leaf, then by induction on the levels left. Assumes nothing.
+use mathlib.Core.Path.{_≡_, refl, sym, ap, ap₂, _∙_, subst}
+use Prim.Native.Nat.{ℕ, zero, suc, _+_, _-_, _*_, _%_, _≤_, _<_}
+use native.Mathlib.Omega.{arith}
+use native.Mathlib.Nat.{mod-lt}
+use mathlib.Core.Bool.{Bool, true, false, not, cond, _&&_}
+use mathlib.Core.List.{List}
+use lib.ListN.{length, take, drop}
+use lib.Dec.{ltb, leb, eqb, lit≤}
+use borrow.Author.Tests.{le-leb, lt-ltb, ltb-true, eqb-true, ne-eqb, eqb-false}
+use Rattle.wide.specs.declared.wide.Wide.{Wide}
+use Rattle.wide.specs.Words.{whole as wordsWhole, valueOf, wideOf}
+use Rattle.wide.specs.Body.{bodyValue}
+use Rattle.wide.specs.Family.{behind, hasByte, numberOf, hasNumber}
+use Rattle.wide.specs.Members.{integerSigned, integerUnsigned}
+use Rattle.wide.proofs.Families.{cond-case}
+use Rattle.wide.proofs.Ranks.{bool-case}
+use Rattle.wide.proofs.Runs.{number-has, bytes-whole}
+use Rattle.wide.proofs.Nearness.{behind-up, behind-zero, value-rest, has-wide}
+use Rattle.wide.proofs.Sound.{sound-integers}
+use Rattle.text.specs.declared.answer.Text.{Text}
+use Rattle.text.specs.declared.answer.Text.the-variants.{WellFormed}
+use Rattle.text.specs.Check.{textOf}
+use Rattle.rows.specs.Kinds.{kindSmall, kindSigned, kindUnsigned, kindFloat, kindText, kindBinary, kindChar, kindForeign, kindKey}
+use Rattle.format.specs.declared.refusal.Refusal.{Refusal}
+use Rattle.format.specs.declared.refusal.Refusal.the-variants as why
+use Rattle.format.specs.declared.head.Content.{Content}
+use Rattle.format.specs.declared.head.Content.the-variants as holds
+use Rattle.format.specs.declared.head.Holder.{Holder}
+use Rattle.format.specs.declared.head.Holder.the-variants.{Array, Record, Map}
+use Rattle.format.specs.declared.head.Head.{Head}
+use Rattle.format.specs.declared.head.Head.the-variants as stands
+use Rattle.format.specs.declared.head.Children.{Children}
+use Rattle.format.specs.declared.head.Children.the-variants.{Plain, Keyed, Growing}
+use Rattle.format.specs.Refusal.{numberOf as refusalNumber}
+use Rattle.format.specs.Tree.{Tree, leaf, refer, hold, declare, Trees, none, more, many}
+use Rattle.format.specs.Head.{codepoint, floatSizes, floatSize, headAt, keyAt}
+use Rattle.format.specs.Value.{Reading, right, wrong, Run, ran, broke, Reader, integerOf, leafOf, kindOf, childCount, childrenOf, keyed, inTurn, child, inForce, ahead, follow, run, held, referred, closed, declaring, framed, framedRight, inForeign, step, value, ended, whole, document}
+use Rattle.format.proofs.Values.{document-value}
+use Rattle.format.specs.Layout.{isEntry}
+use Rattle.format.proofs.Layouts.{around-force}
+use Rattle.format.proofs.Heads.{ConstantAt, SmallAt, Payload, floating, written, plain as binary, SpanAt, CharAt, ContentAt, KeySpan, KeyContent, KeyStood, Stood, head-stood, key-stood}
+use Rattle.rules.specs.declared.shape.Shape.the-variants.{Leaf, Hold, Whole, Damaged}
+use Rattle.rules.specs.Shape.{named, blank, inside, isSmall, oneOf, wellFormed, span, spelt, fits, shapeIf, shapeOf}
+use Rattle.rules.specs.Grow.{isKey}
+use Rattle.rules.specs.Fine.{LeafFine, plain, damaged, HoldFine, holder, foreign, KeyFine, Either, after, Fine, Fines}
+
+-- ---- leaves
+
+constant-shape : (s : List ℕ) (kind : ℕ) → 1 ≤ kind → kind ≤ 3 → shapeOf s kind 0 0 0 0 ≡ Leaf
+unfolding shapeOf named fits blank
+constant-shape s zero l h = absurd (omega arith)
+constant-shape s (suc zero) l h = refl
+constant-shape s (suc (suc zero)) l h = refl
+constant-shape s (suc (suc (suc zero))) l h = refl
+constant-shape s (suc (suc (suc (suc k)))) l h = absurd (omega arith)
+
+-- the four words of n are in -31..64 where n is
+small-words : (n : ℕ) → hasNumber (integerSigned .direct) n ≡ true → isSmall true (wideOf n .w0) (wideOf n .w1) (wideOf n .w2) (wideOf n .w3) ≡ true
+small-words n e = has-wide (integerSigned .direct) n ∙ e
+
+-- an unsigned number in 0..64 is in -31..64
+small-both : (m : ℕ) → m < wordsWhole → hasNumber (integerUnsigned .direct) m ≡ true → hasNumber (integerSigned .direct) m ≡ true
+small-both m l e =
+    let z : behind wordsWhole 0 m ≡ m + 0 = sym (behind-zero m) ∙ behind-up 0 m (omega arith) (omega arith) in
+    let h : m < 65 = omega (arith, ltb-true (behind wordsWhole 0 m) 65 e, z) in
+    let u : behind wordsWhole (wordsWhole - 31) m ≡ m + 31 = behind-up 31 m (omega arith) (omega (arith, bytes-whole)) in
+    lt-ltb (behind wordsWhole (wordsWhole - 31) m) 96 (omega (arith, u))
+
+module _ (s : List ℕ) where
+  shape-small : (n : ℕ) → isSmall true (wideOf n .w0) (wideOf n .w1) (wideOf n .w2) (wideOf n .w3) ≡ true → shapeOf s kindSmall (wideOf n .w0) (wideOf n .w1) (wideOf n .w2) (wideOf n .w3) ≡ Leaf
+  unfolding shapeOf named fits
+  shape-small n e = rw e
+
+  shape-signed : (n : ℕ) → isSmall true (wideOf n .w0) (wideOf n .w1) (wideOf n .w2) (wideOf n .w3) ≡ false → shapeOf s kindSigned (wideOf n .w0) (wideOf n .w1) (wideOf n .w2) (wideOf n .w3) ≡ Leaf
+  unfolding shapeOf named fits
+  shape-signed n e = rw e
+
+  shape-unsigned : (n : ℕ) → isSmall false (wideOf n .w0) (wideOf n .w1) (wideOf n .w2) (wideOf n .w3) ≡ false → shapeOf s kindUnsigned (wideOf n .w0) (wideOf n .w1) (wideOf n .w2) (wideOf n .w3) ≡ Leaf
+  unfolding shapeOf named fits
+  shape-unsigned n e = rw e
+
+  -- a place and a size in the data
+  span-yes : (place size : ℕ) → place + size ≤ length s → span s place size 0 0 ≡ true
+  unfolding span inside blank
+  span-yes place size h = le-leb (place + size) (length s) h
+
+  spelt-yes : (place size : ℕ) → place + size ≤ length s → textOf (take size (drop place s)) ≡ WellFormed → spelt s place size 0 0 ≡ true
+  unfolding spelt
+  spelt-yes place size h e = rw (span-yes place size h, e)
+
+  float-size : (b : ℕ) → 0x03 ≤ b → b < 0x08 → oneOf floatSizes (floatSize b) ≡ true
+  unfolding oneOf
+  float-size zero l h = absurd (omega arith)
+  float-size (suc zero) l h = absurd (omega arith)
+  float-size (suc (suc zero)) l h = absurd (omega arith)
+  float-size (suc (suc (suc zero))) l h = refl
+  float-size (suc (suc (suc (suc zero)))) l h = refl
+  float-size (suc (suc (suc (suc (suc zero))))) l h = refl
+  float-size (suc (suc (suc (suc (suc (suc zero)))))) l h = refl
+  float-size (suc (suc (suc (suc (suc (suc (suc zero))))))) l h = refl
+  float-size (suc (suc (suc (suc (suc (suc (suc (suc b)))))))) l h = absurd (omega arith)
+
+  payload-shape : (kind place size : ℕ) → place + size ≤ length s → Payload s kind place size → shapeOf s kind place size 0 0 ≡ Leaf
+  unfolding shapeOf named fits
+  payload-shape kind place size h (floating b l u k z) = rw k (rw (span-yes place size h, z, float-size b l u))
+  payload-shape kind place size h (written k w) = rw k (rw (spelt-yes place size h w))
+  payload-shape kind place size h (binary k) = rw k (rw (span-yes place size h))
+
+  char-shape : (c : ℕ) → codepoint c ≡ true → shapeOf s kindChar c 0 0 0 ≡ Leaf
+  unfolding shapeOf named fits blank
+  char-shape c e = rw e
+
+  -- a damaged body
+  damaged-shape : (place n : ℕ) (e : Refusal) → place + n ≤ length s → shapeOf s kindForeign place n (refusalNumber e) 0 ≡ Damaged
+  unfolding shapeOf named fits
+  damaged-shape place n why.Short h = rw (span-yes place n h)
+  damaged-shape place n why.Marker h = rw (span-yes place n h)
+  damaged-shape place n why.Huge h = rw (span-yes place n h)
+  damaged-shape place n why.Text h = rw (span-yes place n h)
+  damaged-shape place n why.Char h = rw (span-yes place n h)
+  damaged-shape place n why.NoEntry h = rw (span-yes place n h)
+  damaged-shape place n why.Empty h = rw (span-yes place n h)
+  damaged-shape place n why.Deep h = rw (span-yes place n h)
+  damaged-shape place n why.Extra h = rw (span-yes place n h)
+
+  whole-shape : shapeOf s kindForeign 0 0 0 0 ≡ Whole
+  unfolding shapeOf named fits blank
+  whole-shape = refl
+
+  hold-shape : (h : Holder) (n : ℕ) → shapeOf s (kindOf h) n 0 0 0 ≡ Hold h
+  unfolding shapeOf named fits blank
+  hold-shape Array n = refl
+  hold-shape Record n = refl
+  hold-shape Map n = refl
+
+  module _ (d k : ℕ) where
+    leaf-fine : (kind w0 w1 w2 w3 : ℕ) → shapeOf s kind w0 w1 w2 w3 ≡ Leaf → Fine s (suc d) k (leaf kind w0 w1 w2 w3)
+    unfolding Fine
+    leaf-fine kind w0 w1 w2 w3 e = (omega arith, plain e)
+
+    integer-fine : (signed : Bool) (n : ℕ) → Fine s (suc d) k (integerOf signed n)
+    integer-fine true n =
+        bool-case (hasNumber (integerSigned .direct) n)
+        (λ e. rw e (leaf-fine kindSmall (wideOf n .w0) (wideOf n .w1) (wideOf n .w2) (wideOf n .w3) (shape-small n (small-words n e))))
+        (λ e. rw e (leaf-fine kindSigned (wideOf n .w0) (wideOf n .w1) (wideOf n .w2) (wideOf n .w3) (shape-signed n (has-wide (integerSigned .direct) n ∙ e))))
+    integer-fine false n =
+        bool-case (hasNumber (integerUnsigned .direct) n)
+        (λ e. rw e (leaf-fine kindSmall (wideOf n .w0) (wideOf n .w1) (wideOf n .w2) (wideOf n .w3) (shape-small n (small-both (valueOf (wideOf n)) (low n) (has-wide (integerUnsigned .direct) n ∙ e)))))
+        (λ e. rw e (leaf-fine kindUnsigned (wideOf n .w0) (wideOf n .w1) (wideOf n .w2) (wideOf n .w3) (shape-unsigned n (has-wide (integerUnsigned .direct) n ∙ e))))
+      where
+        low : (n : ℕ) → valueOf (wideOf n) < wordsWhole
+        low n = subst (λ (x : ℕ). x < wordsWhole) (sym (value-rest n)) (mod-lt n (omega (arith, bytes-whole)))
+
+    marker-has : (b : ℕ) → 0x20 ≤ b → b < 0x80 → hasByte (integerSigned .direct) b ≡ true
+    unfolding behind
+    marker-has b l h = lt-ltb (behind 256 0x20 b) 96 (omega arith)
+
+    content-fine : (at next : ℕ) (c : Content) → ContentAt s at next c → next ≤ length s → Fine s (suc d) k (leafOf s c)
+    unfolding leafOf
+    content-fine at next (holds.Constant kind) w l = leaf-fine kind 0 0 0 0 (constant-shape s kind (w .low) (w .high))
+    content-fine at next (holds.Small marker) w l =
+        let n : ℕ = numberOf (integerSigned .direct) marker in
+        leaf-fine kindSmall (wideOf n .w0) (wideOf n .w1) (wideOf n .w2) (wideOf n .w3)
+        (shape-small n (small-words n (number-has (integerSigned .direct) (sound-integers .signed .direct-run) marker ∙ marker-has marker (w .low) (w .high))))
+    content-fine at next (holds.Integer signed place size) w l = integer-fine signed (bodyValue signed (take size (drop place s)))
+    content-fine at next (holds.Span kind place size) w l = leaf-fine kind place size 0 0 (payload-shape kind place size (omega (arith, w .ends)) (w .payload))
+    content-fine at next (holds.Char c) w l = leaf-fine kindChar c 0 0 0 (char-shape c (w .allowed))
+
+-- ---- keys
+
+key-content : (s : List ℕ) (at next : ℕ) (c : Content) → KeyContent s at next c → next ≤ length s → KeyFine s (leafOf s c)
+unfolding leafOf KeyFine
+key-content s at next (holds.Constant kind) w l = absurd w
+key-content s at next (holds.Small marker) w l = absurd w
+key-content s at next (holds.Integer signed place size) w l = absurd w
+key-content s at next (holds.Span kind place size) w l = (w .named, spelt-yes s place size (omega (arith, w .ends)) (w .spelt))
+key-content s at next (holds.Char c) w l = absurd w
+
+-- ---- what is read
+
+abbrev FineAt : (Tree → Type 0) → Reading → Type 0
+FineAt F (right t next) = F t
+FineAt F (wrong e place) = Unit {0}
+
+-- children, and how many
+abbrev FinesAt : List ℕ → ℕ → Children → ℕ → ℕ → ℕ → Run → Type 0
+FinesAt s d c k i n (ran ts next) = (many ts ≡ n) × Fines s d c k i ts
+FinesAt s d c k i n (broke e place) = Unit {0}
+
+keyed-fine : (s : List ℕ) (at stop : ℕ) → stop ≤ length s → (h : Head) → KeyStood s at stop h → FineAt (KeyFine s) (keyed s h)
+keyed-fine s at stop l (stands.Leaf c next) w = key-content s at next c (w .content) (omega (arith, w .within))
+keyed-fine s at stop l (stands.Hold h n next) w = tt
+keyed-fine s at stop l (stands.Refer n next) w = tt
+keyed-fine s at stop l (stands.Declare n next) w = tt
+keyed-fine s at stop l (stands.Foreign place size) w = tt
+keyed-fine s at stop l (stands.Refuse e place) w = tt
+
+force-next : (c : Children) (k i : ℕ) → after (isEntry c) (inForce c k i) ≡ inForce c k (i + 1)
+force-next Plain k i = refl
+force-next Keyed k i = refl
+force-next Growing k i = refl
+
+down : (d : ℕ) → suc d - 1 ≡ d
+down d = omega arith
+
+module _ (s : List ℕ) (d : ℕ) (good : (k at stop : ℕ) → stop ≤ length s → FineAt (Fine s d k) (value d s k at stop)) where
+  turn-fine : (b : Bool) (k at stop : ℕ) → stop ≤ length s → FineAt (λ t. Either b (KeyFine s t) (Fine s d k t)) (inTurn b (value d s) s k at stop)
+  turn-fine true k at stop l = keyed-fine s at stop l (keyAt s at stop) (key-stood s at stop)
+  turn-fine false k at stop l = good k at stop l
+
+  child-fine : (c : Children) (k i at stop : ℕ) → stop ≤ length s
+      → FineAt (λ t. Either (isKey c i) (KeyFine s t) (Fine s d (inForce c k i) t)) (child c (value d s) s k i at stop)
+  unfolding child
+  child-fine Plain k i at stop l = good k at stop l
+  child-fine Keyed k i at stop l = turn-fine (eqb (i % 2) 0) k at stop l
+  child-fine Growing k i at stop l = good i at stop l
+
+  ahead-fine : (c : Children) (k i n : ℕ) (t : Tree) → Either (isKey c i) (KeyFine s t) (Fine s d (inForce c k i) t) → (q : Run)
+      → FinesAt s d c (inForce c k (i + 1)) (i + 1) n q → FinesAt s d c (inForce c k i) i (suc n) (ahead t q)
+  unfolding many Fine
+  ahead-fine c k i n t f (ran ts next) g = (ap suc (g .0), (f, subst (λ (x : ℕ). Fines s d c x (i + 1) ts) (sym (force-next c k i)) (g .1)))
+  ahead-fine c k i n t f (broke e place) g = tt
+
+  follow-fine : (c : Children) (k i n : ℕ) (x : Reading) → FineAt (λ t. Either (isKey c i) (KeyFine s t) (Fine s d (inForce c k i) t)) x → (rest : ℕ → Run)
+      → ((m : ℕ) → FinesAt s d c (inForce c k (i + 1)) (i + 1) n (rest m)) → FinesAt s d c (inForce c k i) i (suc n) (follow x rest)
+  follow-fine c k i n (right t m) f rest g = ahead-fine c k i n t f (rest m) (g m)
+  follow-fine c k i n (wrong e place) f rest g = tt
+
+  run-fine : (c : Children) (k i n at stop : ℕ) → stop ≤ length s → FinesAt s d c (inForce c k i) i n (run (value d s) c s k i n at stop)
+  unfolding run many Fine
+  run-fine c k i zero at stop l = (refl, tt)
+  run-fine c k i (suc n) at stop l =
+      follow-fine c k i n (child c (value d s) s k i at stop) (child-fine c k i at stop l) _ (λ m. run-fine c k (i + 1) n m stop l)
+
+  held-fine : (h : Holder) (k n : ℕ) (q : Run) → FinesAt s d (childrenOf h) k 0 (childCount h n) q → FineAt (Fine s (suc d) k) (held (kindOf h) n q)
+  unfolding Fine
+  held-fine h k n (ran ts next) f =
+      (omega arith, (childrenOf h, k, holder h (hold-shape s h n) (f .0) refl refl, subst (λ (x : ℕ). Fines s x (childrenOf h) k 0 ts) (sym (down d)) (f .1)))
+  held-fine h k n (broke e place) f = tt
+
+  closed-fine : (k n : ℕ) → 0 < n → (es : Trees) → many es ≡ n → Fines s d Growing 0 0 es → (x : Reading) → FineAt (Fine s d n) x → FineAt (Fine s (suc d) k) (closed n es x)
+  unfolding Fine
+  closed-fine k n some es num f (right t next) g =
+      (omega arith, some, num, subst (λ (x : ℕ). Fines s x Growing 0 0 es) (sym (down d)) f, subst (λ (x : ℕ). Fine s x n t) (sym (down d)) g)
+  closed-fine k n some es num f (wrong e place) g = tt
+
+  declaring-fine : (k n : ℕ) → 0 < n → (q : Run) → FinesAt s d Growing 0 0 n q → (stop : ℕ) → stop ≤ length s → FineAt (Fine s (suc d) k) (declaring n q (value d s) stop)
+  declaring-fine k n some (ran es next) f stop l = closed-fine k n some es (f .0) (f .1) (value d s n next stop) (good n next stop l)
+  declaring-fine k n some (broke e place) f stop l = tt
+
+  -- a body of n bytes, read as x
+  framed-fine : (k place n : ℕ) → place + n ≤ length s → (x : Reading) → value d s (inForeign k) place (place + n) ≡ x → FineAt (Fine s d (inForeign k)) x
+      → FineAt (Fine s (suc d) k) (framed place n x)
+  unfolding Fine many
+  framed-fine k place n l (right t next) e f = go (eqb next (place + n)) refl
+    where
+      go : (b : Bool) → eqb next (place + n) ≡ b → FineAt (Fine s (suc d) k) (framedRight b t place n)
+      go true q = (omega arith, (Plain, inForeign k, foreign (whole-shape s) refl refl refl, (subst (λ (x : ℕ). Fine s x (inForeign k) t) (sym (down d)) f, tt)))
+      go false q = (
+        omega arith,
+        damaged (damaged-shape s place n why.Extra l) why.Extra next
+            (rw (down d) (ap (whole (place + n)) e ∙ ap (λ (x : Bool). ended x t next) q)) refl,
+      )
+  framed-fine k place n l (wrong r p) e f =
+      (omega arith, damaged (damaged-shape s place n r l) r p (rw (down d) (ap (whole (place + n)) e)) refl)
+
+  referred-fine : (k at n next : ℕ) (b : Bool) → ltb n k ≡ b → FineAt (Fine s (suc d) k) (referred b n at next)
+  unfolding Fine
+  referred-fine k at n next true e = (omega arith, ltb-true n k e)
+  referred-fine k at n next false e = tt
+
+  step-fine : (k at stop : ℕ) → stop ≤ length s → (h : Head) → Stood s at stop h → FineAt (Fine s (suc d) k) (step (value d s) s k at stop h)
+  unfolding step Fine
+  step-fine k at stop l (stands.Leaf c next) w = content-fine s d k at next c (w .content) (omega (arith, w .within))
+  step-fine k at stop l (stands.Hold h n next) w =
+      let Q : Run = run (value d s) (childrenOf h) s k 0 (childCount h n) next stop in
+      held-fine h k n Q (subst (λ (x : ℕ). FinesAt s d (childrenOf h) x 0 (childCount h n) Q) (around-force h k 0) (run-fine (childrenOf h) k 0 (childCount h n) next stop l))
+  step-fine k at stop l (stands.Refer n next) w = referred-fine k at n next (ltb n k) refl
+  step-fine k at stop l (stands.Declare n next) w =
+      declaring-fine k n (omega (arith, w .some)) (run (value d s) Growing s 0 0 n next stop) (run-fine Growing 0 0 n next stop l) stop l
+  step-fine k at stop l (stands.Foreign place n) w =
+      framed-fine k place n (omega (arith, w .within)) (value d s (inForeign k) place (place + n)) refl (good (inForeign k) place (place + n) (omega (arith, w .within)))
+  step-fine k at stop l (stands.Refuse e place) w = tt
+
+pub value-fine : (s : List ℕ) (d k at stop : ℕ) → stop ≤ length s → FineAt (Fine s d k) (value d s k at stop)
+unfolding value
+value-fine s zero k at stop l = tt
+value-fine s (suc d) k at stop l = step-fine s d (value-fine s d) k at stop l (headAt s at stop) (head-stood s at stop)
+
+-- a document's tree is right
+pub document-fine : (depth : ℕ) (s : List ℕ) (t : Tree) (next : ℕ) → document depth s ≡ right t next → Fine s (suc depth) 0 t
+document-fine depth s t next e =
+    subst (FineAt (Fine s (suc depth) 0)) (document-value depth s t next e) (value-fine s (suc depth) 0 0 (length s) (omega arith))

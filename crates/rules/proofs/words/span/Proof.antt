@@ -1,0 +1,23 @@
+-- `rules::words::span` meets its contract. Assumes nothing.
+use borrow.Author.Needs.{needs}
+use Rattle.rules.specs.Shape.{span}
+use Rattle.lists.proofs.Tests.{and-no, and-yes}
+use Rattle.rules.proofs.words.span.Statement.{statement}
+use Rattle.rules.proofs.words.span.Tie as tie
+
+blank-requires : tie.Need-blank-requires
+blank-requires c κs = search needs
+
+inside-requires : tie.Need-inside-requires
+inside-requires c κs = search needs
+
+returns : tie.Need-returns
+unfolding span
+returns c = search and-yes
+
+returns-2 : tie.Need-returns-2
+unfolding span
+returns-2 c = search and-no
+
+pub span-spec : {M : Type 1} → statement M
+span-spec = tie.close (tie.spec blank-requires inside-requires returns returns-2)

@@ -1,0 +1,4 @@
+-- Laws that belong to no one function.
+pub mod Standings
+pub mod Moving
+pub mod Parts

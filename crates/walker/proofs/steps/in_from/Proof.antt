@@ -1,0 +1,42 @@
+-- `walker::steps::in_from` meets its contract. Assumes nothing.
+use borrow.Author.Needs.{needs}
+use Rattle.walker.proofs.Standings.{is-lent, row-fits, in-yes, in-none, in-forged}
+use Rattle.walker.proofs.steps.in_from.Statement.{statement}
+use Rattle.walker.proofs.steps.in_from.Tie as tie
+
+genuine-requires : tie.Need-genuine-requires
+genuine-requires c κs = search needs
+
+end-at-requires : tie.Need-end-at-requires
+end-at-requires c κs = search is-lent
+
+number-requires : tie.Need-number-requires
+number-requires c κs = search needs
+
+add-if2 : tie.Need-add-if2
+add-if2 c = search row-fits
+
+add-t10 : tie.Need-add-t10
+add-t10 c = search needs
+
+returns : tie.Need-returns
+returns c = search in-yes
+
+returns-2 : tie.Need-returns-2
+returns-2 c = search in-none
+
+returns-3 : tie.Need-returns-3
+returns-3 c = search in-forged
+
+pub in-from-spec : {M : Type 1} → statement M
+in-from-spec =
+    tie.close
+    (tie.spec
+    genuine-requires
+    end-at-requires
+    number-requires
+    add-if2
+    add-t10
+    returns
+    returns-2
+    returns-3)

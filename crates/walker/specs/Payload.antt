@@ -1,0 +1,28 @@
+-- A row's payload. Assumes nothing: these are definitions.
+use Prim.Native.Nat.{ℕ, _+_}
+use mathlib.Core.Bool.{Bool, cond, _&&_, _||_}
+use mathlib.Core.List.{List}
+use lib.ListN.{length, take, drop}
+use lib.Dec.{ltb, leb, eqb}
+use Rattle.rows.specs.declared.row.Row.{Row}
+use Rattle.rows.specs.Table.{rowAt, lent}
+use Rattle.rows.specs.Kinds.{kindFloat, kindText, kindBinary, kindKey}
+use Rattle.walker.specs.declared.part.Part.{Part}
+
+-- "A row's payload (7, 8, 12, 17)"
+unfoldable pub hasPayload : ℕ → Bool
+hasPayload kind = eqb kind kindFloat || (eqb kind kindText || (eqb kind kindBinary || eqb kind kindKey))
+
+abbrev pub part : ℕ → ℕ → Part
+part place size = record { place = place; size = size }
+
+-- "is handed back as that part of the lent data; for other kinds, a row not in the table or bytes outside the data, the empty part at the front"
+abbrev pub partOf : Row → List ℕ → Part
+partOf w s = cond (hasPayload (w .kind) && leb (w .w0 + w .w1) (length s)) (part (w .w0) (w .w1)) (part 0 0)
+
+unfoldable pub payloadAt : List ℕ → ℕ → List ℕ → Part
+payloadAt table row s = cond (ltb row (lent table)) (partOf (rowAt table row) s) (part 0 0)
+
+-- the bytes of a part
+abbrev pub bytesOf : Part → List ℕ → List ℕ
+bytesOf p s = take (p .size) (drop (p .place) s)
