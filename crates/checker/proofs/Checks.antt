@@ -1,23 +1,20 @@
 -- A value position, its children and a declaration, a law for each way out of the code. Assumes nothing.
 use mathlib.Core.Path.{_≡_, refl, sym, ap, ap₂, _∙_, subst}
-use mathlib.Core.Bool.{Bool, true, false}
+use mathlib.Core.Bool.{true}
 use mathlib.Core.List.{List, []}
 use Prim.Native.Nat.{ℕ, zero, suc, _+_, _-_, _%_, _≤_, _<_}
 use native.Mathlib.Omega.{arith}
 use native.Mathlib.Nat.{sub-zero, add-zero, zero-add}
-use native.Mathlib.Numerals.{add-one}
-use native.Mathlib.Decide.{decLt}
 use lib.ListN.{length}
-use lib.Dec.{eqb}
 use borrow.Author.Tests.{lt-ltb, le-ltb, eq-eqb, ne-eqb}
 use Rattle.rows.specs.declared.row.Row.{Row}
 use Rattle.rows.specs.Table.{rowAt, lent, limit}
-use Rattle.registry.specs.Registry.{walk, chain, Below}
+use Rattle.registry.specs.Registry.{chain}
 use Rattle.registry.proofs.Walks.{length-chain, below-none, below-fewer, walk-start, chain-grown, walk-grown, below-grown}
 use Rattle.format.specs.declared.head.Holder.{Holder}
 use Rattle.format.specs.declared.head.Children.{Children}
 use Rattle.format.specs.declared.head.Children.the-variants.{Plain, Keyed, Growing}
-use Rattle.format.specs.Tree.{Tree, Trees, none, more, size}
+use Rattle.format.specs.Tree.{Tree, Trees}
 use Rattle.format.specs.Value.{childCount, childrenOf, inForce, inForeign, value, whole}
 use Rattle.format.specs.Layout.{isEntry, grown, entries}
 use Rattle.format.proofs.Layouts.{no-entry, around-force}

@@ -14,9 +14,7 @@ use Rattle.registry.specs.Registry.{walk, chain, Below}
 use Rattle.registry.proofs.Walks.{below-fewer, length-chain, chain-at}
 use Rattle.format.specs.declared.refusal.Refusal.{Refusal}
 use Rattle.format.specs.declared.refusal.Refusal.the-variants as why
-use Rattle.format.specs.Refusal.{numberOf as refusalNumber}
-use Rattle.format.specs.Tree.{Tree}
-use Rattle.format.specs.Value.{Reading, right, wrong, inForeign, value, ended, whole}
+use Rattle.format.specs.Value.{Reading, right, wrong, inForeign, value, whole}
 use Rattle.measure.specs.declared.measured.Measured.{Measured}
 use Rattle.measure.specs.declared.measured.Measured.the-variants as measured
 use Rattle.measure.specs.Measured.{measuredOf}
@@ -25,6 +23,7 @@ use Rattle.rules.specs.Grow.{Growth, grew, bad, endsAt, leafAt, keyRow, growKey
 use Rattle.checker.specs.declared.grown.Grown.{Grown}
 use Rattle.checker.specs.declared.grown.Grown.the-variants.{Up, Not}
 use Rattle.checker.specs.Safe.{grownOf, endingAt}
+use Rattle.format.specs.Refusal.{numberOf as refusalNumber}
 
 -- ---- where a row ends
 

@@ -64,7 +64,7 @@ size-pos (refer number) = omega arith
 size-pos (hold kind count ts) = omega arith
 size-pos (declare count es t) = omega arith
 
-layout-end : (t : Tree) (row : ℕ) (registry : List ℕ) → rowAt (layout t row registry) 0 .end ≡ row + size t
+pub layout-end : (t : Tree) (row : ℕ) (registry : List ℕ) → rowAt (layout t row registry) 0 .end ≡ row + size t
 unfolding layout size wordsOf rowAt
 layout-end (leaf kind w0 w1 w2 w3) row registry = refl
 layout-end (refer number) row registry = refl

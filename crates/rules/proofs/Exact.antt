@@ -1,27 +1,25 @@
 -- The row rules hold exactly of the tables whose first rows are a right tree's; that tree is one; and every table that is read passes. Assumes
 -- nothing.
 use mathlib.Core.Path.{_≡_, refl, sym, ap, _∙_, subst}
-use Prim.Native.Nat.{ℕ, suc, _+_, _*_, _≤_, _<_}
+use Prim.Native.Nat.{ℕ, suc, _*_, _≤_}
 use native.Mathlib.Omega.{arith}
 use native.Mathlib.Nat.{zero-add}
 use mathlib.Core.Bool.{Bool, true, false, cond, _&&_}
 use mathlib.Core.List.{List, [], _++_}
 use lib.ListN.{length, take, drop, take-append-drop}
 use lib.Seq.{sets, take-at}
-use lib.Dec.{leb, eqb}
+use lib.Dec.{leb}
 use borrow.Author.Tests.{le-leb, leb-true, eq-eqb, eqb-true}
 use Rattle.lists.specs.Zeroed.{zeroed}
 use Rattle.lists.proofs.Sets.{sets-front}
 use Rattle.lists.proofs.Zeros.{length-zeroed}
 use Rattle.rows.specs.Table.{wordsPerRow, lent, limit}
 use Rattle.rows.proofs.Rows.{lent-room, lent-sets, lent-zeroed}
-use Rattle.wide.proofs.Ranks.{bool-case}
-use Rattle.format.specs.declared.answer.Answer.{Answer}
-use Rattle.format.specs.declared.answer.Answer.the-variants.{Accepted, TooLong, Refused, Full}
+use Rattle.format.specs.declared.answer.Answer.the-variants.{Accepted, TooLong, Full}
 use Rattle.format.specs.Tree.{Tree, size}
 use Rattle.format.specs.Value.{Reading, right, wrong, document}
 use Rattle.format.specs.Layout.{layout}
-use Rattle.format.specs.Answer.{answerFor, answer, filled, tableAfter}
+use Rattle.format.specs.Answer.{answerFor, answer, tableAfter}
 use Rattle.format.proofs.Layouts.{length-layout}
 use Rattle.format.proofs.Values.{document-some, document-rows}
 use Rattle.rules.specs.Grow.{Growth, grew, bad, grow, endsWith, rulesHold}

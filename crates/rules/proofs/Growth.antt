@@ -4,7 +4,7 @@ use Prim.Native.Nat.{ℕ, zero, suc, _+_, _-_, _*_, _≤_, _<_}
 use native.Mathlib.Omega.{arith}
 use native.Mathlib.Nat.{add-zero, zero-add}
 use mathlib.Core.Bool.{Bool, true, false, cond, _&&_}
-use mathlib.Core.List.{List, [], _∷_, _++_, append-assoc, append-nil}
+use mathlib.Core.List.{List, [], _∷_, _++_, append-assoc}
 use lib.ListN.{length, getD, drop, length-append}
 use lib.Dec.{ltb, eqb}
 use borrow.Author.Tests.{ltb-true, eqb-true}
@@ -13,12 +13,9 @@ use Rattle.rows.specs.declared.row.Row.{Row}
 use Rattle.rows.specs.Table.{wordsPerRow, wordsOf, rowAt, lent}
 use Rattle.rows.specs.Kinds.{kindKey, leafRow, holderRow, referenceRow, declarationRow}
 use Rattle.rows.proofs.Rows.{drop-row}
-use Rattle.format.specs.declared.refusal.Refusal.{Refusal}
-use Rattle.format.specs.declared.head.Holder.{Holder}
 use Rattle.format.specs.declared.head.Children.{Children}
 use Rattle.format.specs.declared.head.Children.the-variants.{Plain, Growing}
-use Rattle.format.specs.Refusal.{numberOf as refusalNumber}
-use Rattle.format.specs.Tree.{Tree, leaf, refer, hold, declare, Trees, none, more, many, size, sizes}
+use Rattle.format.specs.Tree.{Tree, refer, Trees, none, more, many, size, sizes}
 use Rattle.format.specs.Value.{Reading, right, wrong, childCount, childrenOf, inForeign, value, whole}
 use Rattle.format.specs.Layout.{isEntry, layout, layouts, grown, entries}
 use Rattle.format.proofs.Layouts.{no-entry}
@@ -26,9 +23,10 @@ use Rattle.rules.specs.declared.shape.Shape.{Shape}
 use Rattle.rules.specs.declared.shape.Shape.the-variants.{Bad, Leaf, Refer, Hold, Declare, Whole, Damaged}
 use Rattle.rules.specs.Shape.{spelt, shapeOf}
 use Rattle.rules.specs.Grow.{Growth, grew, bad, Growths, grewAll, badAll, Grower, isKey, leafAt, endsAt, keyRow, growKey, item, before, follow, grows, held, closed, declared, damaged, referred, byShape, rowGrows, grow}
-use Rattle.rules.specs.Fine.{LeafFine, plain, damaged as spoilt, HoldFine, holder, foreign, KeyFine, Either, after, Fine, Fines}
+use Rattle.rules.specs.Fine.{plain, damaged as spoilt, HoldFine, holder, foreign, KeyFine, Either, after, Fine, Fines}
 use Rattle.rules.proofs.Says.{Says, says}
 use Rattle.lists.proofs.Tests.{and-first, and-second}
+use Rattle.format.specs.Refusal.{numberOf as refusalNumber}
 
 -- a tree of the kind F stands from `row` up to e
 pub record Grew (F : Tree → Type 0) (table : List ℕ) (n : ℕ) (registry : List ℕ) (row : ℕ) (t : Tree) (e : ℕ) : Type 0 where

@@ -1,19 +1,17 @@
 -- Every tree that is read is right: a law for each kind of leaf, then by induction on the levels left. Assumes nothing.
-use mathlib.Core.Path.{_≡_, refl, sym, ap, ap₂, _∙_, subst}
-use Prim.Native.Nat.{ℕ, zero, suc, _+_, _-_, _*_, _%_, _≤_, _<_}
+use mathlib.Core.Path.{_≡_, refl, sym, ap, _∙_, subst}
+use Prim.Native.Nat.{ℕ, zero, suc, _+_, _-_, _%_, _≤_, _<_}
 use native.Mathlib.Omega.{arith}
 use native.Mathlib.Nat.{mod-lt}
-use mathlib.Core.Bool.{Bool, true, false, not, cond, _&&_}
+use mathlib.Core.Bool.{Bool, true, false}
 use mathlib.Core.List.{List}
 use lib.ListN.{length, take, drop}
-use lib.Dec.{ltb, leb, eqb, lit≤}
-use borrow.Author.Tests.{le-leb, lt-ltb, ltb-true, eqb-true, ne-eqb, eqb-false}
-use Rattle.wide.specs.declared.wide.Wide.{Wide}
+use lib.Dec.{ltb, eqb}
+use borrow.Author.Tests.{le-leb, lt-ltb, ltb-true}
 use Rattle.wide.specs.Words.{whole as wordsWhole, valueOf, wideOf}
 use Rattle.wide.specs.Body.{bodyValue}
 use Rattle.wide.specs.Family.{behind, hasByte, numberOf, hasNumber}
 use Rattle.wide.specs.Members.{integerSigned, integerUnsigned}
-use Rattle.wide.proofs.Families.{cond-case}
 use Rattle.wide.proofs.Ranks.{bool-case}
 use Rattle.wide.proofs.Runs.{number-has, bytes-whole}
 use Rattle.wide.proofs.Nearness.{behind-up, behind-zero, value-rest, has-wide}
@@ -21,7 +19,7 @@ use Rattle.wide.proofs.Sound.{sound-integers}
 use Rattle.text.specs.declared.answer.Text.{Text}
 use Rattle.text.specs.declared.answer.Text.the-variants.{WellFormed}
 use Rattle.text.specs.Check.{textOf}
-use Rattle.rows.specs.Kinds.{kindSmall, kindSigned, kindUnsigned, kindFloat, kindText, kindBinary, kindChar, kindForeign, kindKey}
+use Rattle.rows.specs.Kinds.{kindSmall, kindSigned, kindUnsigned, kindChar, kindForeign}
 use Rattle.format.specs.declared.refusal.Refusal.{Refusal}
 use Rattle.format.specs.declared.refusal.Refusal.the-variants as why
 use Rattle.format.specs.declared.head.Content.{Content}
@@ -32,18 +30,18 @@ use Rattle.format.specs.declared.head.Head.{Head}
 use Rattle.format.specs.declared.head.Head.the-variants as stands
 use Rattle.format.specs.declared.head.Children.{Children}
 use Rattle.format.specs.declared.head.Children.the-variants.{Plain, Keyed, Growing}
-use Rattle.format.specs.Refusal.{numberOf as refusalNumber}
-use Rattle.format.specs.Tree.{Tree, leaf, refer, hold, declare, Trees, none, more, many}
+use Rattle.format.specs.Tree.{Tree, leaf, Trees, many}
 use Rattle.format.specs.Head.{codepoint, floatSizes, floatSize, headAt, keyAt}
-use Rattle.format.specs.Value.{Reading, right, wrong, Run, ran, broke, Reader, integerOf, leafOf, kindOf, childCount, childrenOf, keyed, inTurn, child, inForce, ahead, follow, run, held, referred, closed, declaring, framed, framedRight, inForeign, step, value, ended, whole, document}
+use Rattle.format.specs.Value.{Reading, right, wrong, Run, ran, broke, integerOf, leafOf, kindOf, childCount, childrenOf, keyed, inTurn, child, inForce, ahead, follow, run, held, referred, closed, declaring, framed, framedRight, inForeign, step, value, ended, whole, document}
 use Rattle.format.proofs.Values.{document-value}
 use Rattle.format.specs.Layout.{isEntry}
 use Rattle.format.proofs.Layouts.{around-force}
-use Rattle.format.proofs.Heads.{ConstantAt, SmallAt, Payload, floating, written, plain as binary, SpanAt, CharAt, ContentAt, KeySpan, KeyContent, KeyStood, Stood, head-stood, key-stood}
+use Rattle.format.proofs.Heads.{Payload, floating, written, plain as binary, ContentAt, KeyContent, KeyStood, Stood, head-stood, key-stood}
 use Rattle.rules.specs.declared.shape.Shape.the-variants.{Leaf, Hold, Whole, Damaged}
-use Rattle.rules.specs.Shape.{named, blank, inside, isSmall, oneOf, wellFormed, span, spelt, fits, shapeIf, shapeOf}
+use Rattle.rules.specs.Shape.{named, blank, inside, isSmall, oneOf, span, spelt, fits, shapeOf}
 use Rattle.rules.specs.Grow.{isKey}
-use Rattle.rules.specs.Fine.{LeafFine, plain, damaged, HoldFine, holder, foreign, KeyFine, Either, after, Fine, Fines}
+use Rattle.rules.specs.Fine.{plain, damaged, holder, foreign, KeyFine, Either, after, Fine, Fines}
+use Rattle.format.specs.Refusal.{numberOf as refusalNumber}
 
 -- ---- leaves
 
@@ -56,16 +54,21 @@ constant-shape s (suc (suc (suc zero))) l h = refl
 constant-shape s (suc (suc (suc (suc k)))) l h = absurd (omega arith)
 
 -- the four words of n are in -31..64 where n is
-small-words : (n : ℕ) → hasNumber (integerSigned .direct) n ≡ true → isSmall true (wideOf n .w0) (wideOf n .w1) (wideOf n .w2) (wideOf n .w3) ≡ true
+pub small-words : (n : ℕ) → hasNumber (integerSigned .direct) n ≡ true → isSmall true (wideOf n .w0) (wideOf n .w1) (wideOf n .w2) (wideOf n .w3) ≡ true
 small-words n e = has-wide (integerSigned .direct) n ∙ e
 
 -- an unsigned number in 0..64 is in -31..64
-small-both : (m : ℕ) → m < wordsWhole → hasNumber (integerUnsigned .direct) m ≡ true → hasNumber (integerSigned .direct) m ≡ true
+pub small-both : (m : ℕ) → m < wordsWhole → hasNumber (integerUnsigned .direct) m ≡ true → hasNumber (integerSigned .direct) m ≡ true
 small-both m l e =
     let z : behind wordsWhole 0 m ≡ m + 0 = sym (behind-zero m) ∙ behind-up 0 m (omega arith) (omega arith) in
     let h : m < 65 = omega (arith, ltb-true (behind wordsWhole 0 m) 65 e, z) in
     let u : behind wordsWhole (wordsWhole - 31) m ≡ m + 31 = behind-up 31 m (omega arith) (omega (arith, bytes-whole)) in
     lt-ltb (behind wordsWhole (wordsWhole - 31) m) 96 (omega (arith, u))
+
+-- the bytes of -31..64
+pub marker-has : (b : ℕ) → 0x20 ≤ b → b < 0x80 → hasByte (integerSigned .direct) b ≡ true
+unfolding behind
+marker-has b l h = lt-ltb (behind 256 0x20 b) 96 (omega arith)
 
 module _ (s : List ℕ) where
   shape-small : (n : ℕ) → isSmall true (wideOf n .w0) (wideOf n .w1) (wideOf n .w2) (wideOf n .w3) ≡ true → shapeOf s kindSmall (wideOf n .w0) (wideOf n .w1) (wideOf n .w2) (wideOf n .w3) ≡ Leaf
@@ -152,10 +155,6 @@ module _ (s : List ℕ) where
         low : (n : ℕ) → valueOf (wideOf n) < wordsWhole
         low n = subst (λ (x : ℕ). x < wordsWhole) (sym (value-rest n)) (mod-lt n (omega (arith, bytes-whole)))
 
-    marker-has : (b : ℕ) → 0x20 ≤ b → b < 0x80 → hasByte (integerSigned .direct) b ≡ true
-    unfolding behind
-    marker-has b l h = lt-ltb (behind 256 0x20 b) 96 (omega arith)
-
     content-fine : (at next : ℕ) (c : Content) → ContentAt s at next c → next ≤ length s → Fine s (suc d) k (leafOf s c)
     unfolding leafOf
     content-fine at next (holds.Constant kind) w l = leaf-fine kind 0 0 0 0 (constant-shape s kind (w .low) (w .high))
@@ -196,7 +195,7 @@ keyed-fine s at stop l (stands.Declare n next) w = tt
 keyed-fine s at stop l (stands.Foreign place size) w = tt
 keyed-fine s at stop l (stands.Refuse e place) w = tt
 
-force-next : (c : Children) (k i : ℕ) → after (isEntry c) (inForce c k i) ≡ inForce c k (i + 1)
+pub force-next : (c : Children) (k i : ℕ) → after (isEntry c) (inForce c k i) ≡ inForce c k (i + 1)
 force-next Plain k i = refl
 force-next Keyed k i = refl
 force-next Growing k i = refl

@@ -3,36 +3,34 @@ use mathlib.Core.Path.{_≡_, refl, sym, ap, ap₂, _∙_, subst}
 use Prim.Native.Nat.{ℕ, zero, suc, _+_, _-_, _*_, _≤_, _<_}
 use native.Mathlib.Omega.{arith}
 use native.Mathlib.Nat.{add-zero, zero-add}
-use mathlib.Core.Bool.{Bool, true, false, cond, _&&_}
-use mathlib.Core.List.{List, [], _∷_, _++_, append-assoc}
+use mathlib.Core.Bool.{Bool, true, false, cond}
+use mathlib.Core.List.{List, [], _++_, append-assoc}
 use lib.ListN.{length, getD, drop}
-use lib.Dec.{ltb, eqb}
 use lib.Seq.{drop-drop, drop-append-seam}
 use borrow.Author.Tests.{lt-ltb, eq-eqb}
 use Rattle.rows.specs.declared.row.Row.{Row}
 use Rattle.rows.specs.Table.{wordsPerRow, wordsOf, rowAt}
-use Rattle.rows.specs.Kinds.{kindReference, kindDeclaration, leafRow, holderRow, referenceRow, declarationRow}
+use Rattle.rows.specs.Kinds.{leafRow, holderRow, referenceRow, declarationRow}
 use Rattle.rows.proofs.Rows.{length-words, row-words}
-use Rattle.format.specs.declared.head.Holder.{Holder}
 use Rattle.format.specs.declared.head.Children.{Children}
-use Rattle.format.specs.declared.head.Children.the-variants.{Plain, Growing}
-use Rattle.format.specs.Refusal.{numberOf as refusalNumber}
+use Rattle.format.specs.declared.head.Children.the-variants.{Growing}
 use Rattle.format.specs.Tree.{Tree, leaf, refer, hold, declare, Trees, none, more, many, size, sizes}
-use Rattle.format.specs.Value.{Reading, wrong, childCount, childrenOf, inForeign, value, whole}
+use Rattle.format.specs.Value.{Reading}
 use Rattle.format.specs.Layout.{isEntry, layout, layouts, grown, entries}
-use Rattle.format.proofs.Layouts.{no-entry, length-layout, length-layouts, size-pos}
+use Rattle.format.proofs.Layouts.{no-entry, length-layout, length-layouts}
 use Rattle.rules.specs.declared.shape.Shape.{Shape}
 use Rattle.rules.specs.declared.shape.Shape.the-variants.{Leaf, Refer, Hold, Declare, Whole, Damaged}
 use Rattle.rules.specs.Shape.{shapeOf}
-use Rattle.rules.specs.Grow.{Growth, grew, bad, Growths, grewAll, Grower, isKey, endsAt, keyRow, growKey, item, before, follow, grows, held, closed, declared, damaged, byShape, rowGrows, grow}
-use Rattle.rules.specs.Fine.{LeafFine, plain, damaged as spoilt, HoldFine, holder, foreign, KeyFine, Either, after, Fine, Fines}
+use Rattle.rules.specs.Grow.{Growth, grew, bad, Growths, grewAll, Grower, isKey, endsAt, growKey, item, before, follow, grows, held, closed, declared, damaged, byShape, grow}
+use Rattle.rules.specs.Fine.{LeafFine, plain, damaged as spoilt, HoldFine, holder, foreign, KeyFine, Either, Fine, Fines}
 use Rattle.rules.proofs.Growth.{length-grown, length-entries}
 use Rattle.rules.proofs.Says.{refer-shape, declare-shape}
+use Rattle.format.specs.Refusal.{numberOf as refusalNumber}
 
 -- ---- what stands behind some rows
 
 -- n rows from `row` on have the words xs: behind them stands the rest
-behind : (table : List ℕ) (row n : ℕ) (xs rest : List ℕ) → length xs ≡ wordsPerRow * n → drop (wordsPerRow * row) table ≡ xs ++ rest → drop (wordsPerRow * (row + n)) table ≡ rest
+pub behind : (table : List ℕ) (row n : ℕ) (xs rest : List ℕ) → length xs ≡ wordsPerRow * n → drop (wordsPerRow * row) table ≡ xs ++ rest → drop (wordsPerRow * (row + n)) table ≡ rest
 behind table row n xs rest l h =
     let e : wordsPerRow * (row + n) ≡ wordsPerRow * row + length xs = omega arith in
     ap (λ (i : ℕ). drop i table) e ∙ sym (drop-drop (length xs) (wordsPerRow * row) table) ∙ ap (drop (length xs)) h ∙ drop-append-seam xs rest

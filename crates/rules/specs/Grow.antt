@@ -10,13 +10,13 @@ use Rattle.rows.specs.Table.{rowAt, lent, limit}
 use Rattle.rows.specs.Kinds.{kindKey}
 use Rattle.format.specs.declared.head.Children.{Children}
 use Rattle.format.specs.declared.head.Children.the-variants.{Plain, Keyed, Growing}
-use Rattle.format.specs.Refusal.{numberOf as refusalNumber}
 use Rattle.format.specs.Tree.{Tree, leaf, refer, hold, declare, Trees, none, more}
 use Rattle.format.specs.Value.{Reading, right, wrong, childCount, childrenOf, inForeign, value, whole}
 use Rattle.format.specs.Layout.{isEntry, grown, entries}
 use Rattle.rules.specs.declared.shape.Shape.{Shape}
 use Rattle.rules.specs.declared.shape.Shape.the-variants.{Bad, Leaf, Refer, Hold, Declare, Whole, Damaged}
 use Rattle.rules.specs.Shape.{spelt, shapeOf}
+use Rattle.format.specs.Refusal.{numberOf as refusalNumber}
 
 -- the tree that stands from a row on and the row behind it, or that a rule is broken
 pub data Growth : Type 0 where

@@ -11,7 +11,6 @@ use Rattle.text.specs.declared.answer.Text.{Text}
 use Rattle.text.specs.declared.answer.Text.the-variants.{WellFormed, IllFormed}
 use Rattle.text.specs.Check.{textOf}
 use Rattle.rows.specs.Kinds.{kindFalse, kindTrue, kindNone, kindSmall, kindSigned, kindUnsigned, kindFloat, kindText, kindArray, kindRecord, kindMap, kindBinary, kindChar, kindReference, kindDeclaration, kindForeign}
-use Rattle.format.specs.declared.head.Holder.{Holder}
 use Rattle.format.specs.declared.head.Holder.the-variants.{Array, Record, Map}
 use Rattle.format.specs.Head.{codepoint, floatSizes}
 use Rattle.rules.specs.declared.kind.Kind.{Kind}

@@ -1,6 +1,6 @@
 // Whether the words of a row are right.
 ghost use mathlib.Core.Path.{_≡_};
-ghost use Rattle.wide.specs.Words.{valueOf, words};
+ghost use Rattle.wide.specs.Words.{words};
 ghost use Rattle.format.specs.Head.{floatSizes};
 ghost use Rattle.rules.specs.Shape.{blank, inside, oneOf, span, spelt};
 use rows::Row;

@@ -2,3 +2,5 @@
 pub mod Standings
 pub mod Moving
 pub mod Parts
+pub mod Apart
+pub mod Answers

@@ -1,3 +1,4 @@
 pub mod Walk
 pub mod Resolve
 pub mod Payload
+pub mod Held

@@ -1,4 +1,5 @@
 // A walker over a lent table, checked or not.
+mod held;
 mod moved;
 mod moves;
 mod number;
@@ -9,6 +10,13 @@ mod standing;
 mod step;
 mod steps;
 
+pub use held::Walker;
+pub use held::first_child;
+pub use held::walker_along;
+pub use held::walker_in;
+pub use held::walker_on;
+pub use held::walker_start;
+pub use held::walker_to;
 pub use part::Part;
 pub use payloads::payload;
 pub use payloads::payload_at;

@@ -1,0 +1,9 @@
+-- Laws that belong to no one function.
+pub mod Moved
+pub mod Fronts
+pub mod Leaves
+pub mod Back
+pub mod Again
+pub mod Alike
+pub mod Least
+pub mod Shortest

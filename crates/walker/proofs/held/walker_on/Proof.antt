@@ -1,0 +1,21 @@
+-- `walker::held::walker_on` meets its contract: `on_from` is called on the walker's fields, by the walk that `Apart` has. Assumes nothing.
+use contract.Running.{givenOf, tables, tablesOf}
+use denote.Triple.Spec.{tripleOf}
+use denote.Triple.Table.{entered, cited}
+use Rattle.walker.specs.Walk.{stepOn}
+use Rattle.walker.proofs.Apart.{Called, meets}
+use Rattle.walker.proofs.steps.on_from.Symbol as called
+use Rattle.walker.proofs.steps.on_from.Symbol.{name as #walker·steps·on-from}
+use Rattle.walker.proofs.steps.on_from.Met as thm
+use Rattle.walker.proofs.held.walker_on.Key.{name as #walker·held·walker-on}
+use Rattle.walker.proofs.held.walker_on as walker-on
+use Rattle.walker.proofs.held.walker_on.Statement as stated
+use Rattle.walker.proofs.held.walker_on.Code as code
+
+pub walker-on-spec : {M : Type 1} → stated.statement M
+unfolding code.routine tablesOf
+walker-on-spec 𝓤 H 𝓜 𝓖 𝓡 =
+    entered 𝓤 H (tripleOf 𝓤 H (𝓖 .A) walker-on.signature (walker-on.spec 𝓤 H (𝓖 .A) (𝓜 .mem) (𝓡 .run)))
+    (tables 𝓤 H 𝓜 𝓡 code.env .C) (tables 𝓤 H 𝓜 𝓡 code.env .Λ) #walker·held·walker-on code.function (code.unfolded 𝓤 H 𝓜 𝓡)
+    (meets 𝓤 H (𝓖 .A) (givenOf 𝓤 H 𝓜 𝓖) stepOn #walker·steps·on-from (tablesOf 𝓤 H 𝓜 (tables 𝓤 H 𝓜 𝓡 code.env))
+    (cited 𝓤 H (Called 𝓤 H (𝓖 .A) stepOn) 𝓜 𝓡 code.env #walker·steps·on-from called.routine code.calls-walker·steps·on-from (thm.met 𝓤 H 𝓜 𝓖 𝓡)))

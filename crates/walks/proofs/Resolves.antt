@@ -1,0 +1,289 @@
+-- Resolving from any row of a table that passed the check ends, in fewer moves than rows, at a row that is neither a reference nor a
+-- declaration. The weight of a spot, its rows and those of the entries in force, falls with each move. Assumes nothing.
+use mathlib.Core.Path.{_≡_, refl, sym, ap, _∙_, subst}
+use Prim.Native.Nat.{ℕ, zero, suc, _+_, _-_, _≤_, _<_}
+use native.Mathlib.Omega.{arith}
+use native.Mathlib.Nat.{add-zero}
+use native.Mathlib.Decide.{decLt}
+use mathlib.Core.List.{List}
+use lib.ListN.{length, getD}
+use borrow.Author.Tests.{lt-ltb, le-leb, ne-eqb}
+use Rattle.rows.specs.declared.row.Row.{Row}
+use Rattle.rows.specs.Table.{rowAt, lent}
+use Rattle.rows.specs.Kinds.{kindReference, kindDeclaration, leafRow, holderRow, referenceRow, declarationRow}
+use Rattle.format.specs.Tree.{Tree, leaf, refer, hold, declare, Trees, none, more, many, size, sizes}
+use Rattle.format.proofs.Layouts.{size-pos}
+use Rattle.rules.specs.Fine.{Fine, Stands}
+use Rattle.walker.specs.declared.moved.Move.{Move}
+use Rattle.walker.specs.declared.moved.Move.the-variants as go
+use Rattle.walker.specs.declared.resolved.Resolved.{Resolved}
+use Rattle.walker.specs.declared.resolved.Resolved.the-variants.{At}
+use Rattle.walker.specs.Resolve.{valueRow, moveFrom, moveAt, chased, chase, resolve}
+use Rattle.walks.specs.Spots.{Spot, spot, Spots, nil, cons, rowOf, behind, held, declared, children}
+use Rattle.walks.proofs.Good.{rowsOf, Before, Good, Goods, declare-fine, children-good}
+use Rattle.walks.proofs.Neither.{Neither, leaf-neither, hold-neither}
+use Rattle.walks.proofs.Walked.{refer-known, good-own, leaf-row, refer-row, hold-row, declare-row, root-good}
+
+-- ---- weights
+
+abbrev rowsIn : Spot → ℕ
+rowsIn (spot t row force) = size t
+
+abbrev total : Spots → ℕ
+total nil = 0
+total (cons x xs) = rowsIn x + total xs
+
+abbrev weight : Spot → ℕ
+weight (spot t row force) = size t + total force
+
+-- each entry in force weighs no more than all of them have rows
+unfoldable mutual
+  Snug : Spot → Type 0
+  Snug (spot t row force) = Snugs (total force) force
+
+  Snugs : ℕ → Spots → Type 0
+  Snugs m nil = Unit {0}
+  Snugs m (cons x xs) = (weight x ≤ m) × Snug x × Snugs m xs
+
+total-behind : (xs : Spots) (x : Spot) → total (behind xs x) ≡ total xs + rowsIn x
+unfolding behind
+total-behind nil x = omega arith
+total-behind (cons y ys) x = omega (arith, total-behind ys x)
+
+snugs-behind : (m m′ : ℕ) (xs : Spots) (x : Spot) → m ≤ m′ → Snugs m xs → weight x ≤ m′ → Snug x → Snugs m′ (behind xs x)
+unfolding behind Snug
+snugs-behind m m′ nil x h g w k = (w, k, tt)
+snugs-behind m m′ (cons y ys) x h g w k = (omega (arith, g .0), g .1, snugs-behind m m′ ys x h (g .2) w k)
+
+-- a holder's children
+held-snug : (ts : Trees) (row m : ℕ) (force : Spots) → Snugs (total force) force → total force + sizes ts ≤ m → Snugs m (held ts row force)
+unfolding held Snug size
+held-snug none row m force g h = tt
+held-snug (more t ts) row m force g h = (omega arith, g, held-snug ts (row + size t) m force g (omega arith))
+
+-- entries and the value behind them
+declared-snug : (es : Trees) (t : Tree) (row m : ℕ) (force : Spots) → Snugs (total force) force → total force + (sizes es + size t) ≤ m → Snugs m (declared es t row force)
+unfolding declared Snug size
+declared-snug none t row m force g h = (omega arith, g, tt)
+declared-snug (more e es) t row m force g h =
+    let x : Spot = spot e row force in
+    let k : total (behind force x) ≡ total force + size e = total-behind force x in (
+      omega arith,
+      g,
+      declared-snug es t (row + size e) m (behind force x)
+          (subst (λ (y : ℕ). Snugs y (behind force x)) (sym k) (snugs-behind (total force) (total force + size e) force x (omega arith) g (omega arith) g)) (omega arith),
+    )
+
+children-snug : (x : Spot) → Snug x → Snugs (weight x - 1) (children x)
+unfolding children Snug size
+children-snug (spot (leaf kind w0 w1 w2 w3) row force) g = tt
+children-snug (spot (refer number) row force) g = tt
+children-snug (spot (hold kind count ts) row force) g = held-snug ts (row + 1) (1 + sizes ts + total force - 1) force g (omega arith)
+children-snug (spot (declare count es t) row force) g = declared-snug es t (row + 1) (1 + (sizes es + size t) + total force - 1) nil tt (omega arith)
+
+-- ---- every row is some spot's
+
+record Found (table : List ℕ) (n : ℕ) (s : List ℕ) (m row : ℕ) : Type 0 where
+  pub there : Spot
+  pub is : rowOf there ≡ row
+  pub good : Good table n s there
+  pub snug : Snug there
+  pub light : weight there ≤ m
+
+module _ (table : List ℕ) (n : ℕ) (s : List ℕ) (m r : ℕ) where
+  -- the row itself, or one below
+  pick : (x : Spot) → Good table n s x → Snug x → weight x ≤ m → rowOf x ≤ r → (rowOf x + 1 ≤ r → Found table n s m r) → Found table n s m r
+  pick x g k l lo f = of (decLt (rowOf x) r)
+    where
+      of : Dec (rowOf x < r) → Found table n s m r
+      of (yes h) = f (omega arith)
+      of (no h) = record { there = x; is = omega arith; good = g; snug = k; light = l }
+
+  either : (a : ℕ) → (r < a → Found table n s m r) → (a ≤ r → Found table n s m r) → Found table n s m r
+  either a f h = of (decLt r a)
+    where
+      of : Dec (r < a) → Found table n s m r
+      of (yes q) = f q
+      of (no q) = h (omega arith)
+
+  snugs-more : (a : ℕ) (xs : Spots) → a ≤ m → Snugs a xs → Snugs m xs
+  unfolding Snug
+  snugs-more a nil h k = tt
+  snugs-more a (cons x xs) h k = (omega (arith, k .0), k .1, snugs-more a xs h (k .2))
+
+  -- how a tree is searched
+  abbrev Search : Tree → Type 0
+  Search t = (row : ℕ) (force : Spots) → Good table n s (spot t row force) → Snug (spot t row force) → size t + total force ≤ m → row ≤ r → r < row + size t → Found table n s m r
+
+  mutual
+    unfolding children held declared Good Snug size
+
+    find : (t : Tree) → Search t
+    find (leaf kind w0 w1 w2 w3) row force g k l lo hi = record { there = spot (leaf kind w0 w1 w2 w3) row force; is = omega arith; good = g; snug = k; light = l }
+    find (refer number) row force g k l lo hi = record { there = spot (refer number) row force; is = omega arith; good = g; snug = k; light = l }
+    find (hold kind count ts) row force g k l lo hi =
+        let x : Spot = spot (hold kind count ts) row force in
+        pick x g k l lo (λ h. find-held ts (row + 1) force (children-good table n s x g) (held-snug ts (row + 1) m force k (omega arith)) h (omega arith))
+    find (declare count es t) row force g k l lo hi =
+        let x : Spot = spot (declare count es t) row force in
+        pick x g k l lo (λ h. find-declared es t (find t) (row + 1) nil (children-good table n s x g) (declared-snug es t (row + 1) m nil tt (omega arith)) h (omega arith))
+
+    find-held : (ts : Trees) (row : ℕ) (force : Spots) → Goods table n s (held ts row force) → Snugs m (held ts row force) → row ≤ r → r < row + sizes ts → Found table n s m r
+    find-held none row force g k lo hi = absurd (omega arith)
+    find-held (more t ts) row force g k lo hi =
+        either (row + size t) (λ h. find t row force (g .0) (k .1) (k .0) lo h) (λ h. find-held ts (row + size t) force (g .1) (k .2) h (omega arith))
+
+    find-declared : (es : Trees) (t : Tree) → Search t → (row : ℕ) (force : Spots) → Goods table n s (declared es t row force) → Snugs m (declared es t row force) → row ≤ r
+        → r < row + (sizes es + size t) → Found table n s m r
+    find-declared none t own row force g k lo hi = own row force (g .0) (k .1) (k .0) lo (omega arith)
+    find-declared (more e es) t own row force g k lo hi =
+        either (row + size e) (λ h. find e row force (g .0) (k .1) (k .0) lo h)
+        (λ h. find-declared es t own (row + size e) (behind force (spot e row force)) (g .1) (k .2) h (omega arith))
+
+-- ---- one move
+
+-- where resolving ended: `most` bounds the moves
+pub record Ended (table : List ℕ) (n most : ℕ) (r : Resolved) : Type 0 where
+  pub row : ℕ
+  pub bound : ℕ
+  pub moves : ℕ
+  pub is : r ≡ At row bound moves
+  pub few : moves < most
+  pub below : row < n
+  pub end : bound ≡ rowAt table row .end
+  pub neither : Neither (rowAt table row .kind)
+
+module _ (table : List ℕ) (n : ℕ) (s : List ℕ) where
+  at-move : (row : ℕ) → row < n → (w : Row) → rowAt table row ≡ w → moveAt table n row ≡ moveFrom table n row w
+  unfolding moveAt
+  at-move row h w e = rw (lt-ltb row n h, e)
+
+  neither-stop : (row : ℕ) (w : Row) → Neither (w .kind) → moveFrom table n row w ≡ go.Stop
+  neither-stop row w k = rw (ne-eqb (w .kind) kindReference (k .no-reference), ne-eqb (w .kind) kindDeclaration (k .no-declaration))
+
+  -- the value behind good entries
+  value-right : (es : Trees) (t : Tree) (row end : ℕ) (force : Spots) → Goods table n s (declared es t row force) → row + (sizes es + size t) ≤ end
+      → valueRow table n end (many es) row ≡ go.To (row + sizes es)
+  unfolding declared Good size many valueRow
+  value-right none t row end force g h =
+      let o = good-own table n s (spot t row force) (g .0) in
+      rw (lt-ltb row n (omega (arith, o .1, o .2)), lt-ltb row end (omega (arith, size-pos t))) (ap go.To (sym (add-zero row)))
+  value-right (more e es) t row end force g h =
+      let o = good-own table n s (spot e row force) (g .0) in
+      let q : row + size e + sizes es ≡ row + (size e + sizes es) = omega arith in
+      rw (o .0, lt-ltb row n (omega (arith, o .1, o .2)), lt-ltb row (row + size e) (omega (arith, size-pos e)), le-leb (row + size e) end (omega arith))
+      (value-right es t (row + size e) end (behind force (spot e row force)) (g .1) (omega arith) ∙ ap go.To q)
+
+  -- the last of them
+  declared-last : (es : Trees) (t : Tree) (row m : ℕ) (force : Spots) → Goods table n s (declared es t row force) → Snugs m (declared es t row force) → Found table n s m (row + sizes es)
+  unfolding declared Good Snug size
+  declared-last none t row m force g k = record { there = spot t row force; is = sym (add-zero row); good = g .0; snug = k .1; light = k .0 }
+  declared-last (more e es) t row m force g k =
+      let q : row + size e + sizes es ≡ row + (size e + sizes es) = omega arith in
+      subst (Found table n s m) q (declared-last es t (row + size e) m (behind force (spot e row force)) (g .1) (k .2))
+
+  -- an entry in force
+  entry-found : (number m row : ℕ) (xs : Spots) → number < length (rowsOf xs) → Goods table n s xs → Before row xs → Snugs m xs
+      → Found table n s m (getD (rowsOf xs) number 0) × (getD (rowsOf xs) number 0 < row)
+  unfolding Good Snug Before
+  entry-found number m row nil l g b k = absurd (omega arith)
+  entry-found zero m row (cons x xs) l g b k =
+      let o = good-own table n s x (g .0) in
+      (record { there = x; is = refl; good = g .0; snug = k .1; light = k .0 }, omega (arith, o .1, b .0))
+  entry-found (suc number) m row (cons x xs) l g b k = entry-found number m row xs (omega arith) (g .1) (b .1) (k .2)
+
+  -- a spot's move: none, or to a lighter spot
+  data Moves (x : Spot) : Type 0 where
+    stop : moveAt table n (rowOf x) ≡ go.Stop → Neither (rowAt table (rowOf x) .kind) → Moves x
+    on : (row : ℕ) → moveAt table n (rowOf x) ≡ go.To row → Found table n s (weight x - 1) row → Moves x
+
+  moves : (x : Spot) → Good table n s x → Snug x → Moves x
+  unfolding Good Snug size Fine declared children
+  moves (spot (leaf kind w0 w1 w2 w3) row force) g k =
+      let o = good-own table n s (spot (leaf kind w0 w1 w2 w3) row force) g in
+      let w : Row = leafRow kind row w0 w1 w2 w3 in
+      let e : rowAt table row ≡ w = leaf-row table n s row (rowsOf force) kind w0 w1 w2 w3 (g .0) in
+      let z : Neither kind = leaf-neither s (length (rowsOf force)) kind w0 w1 w2 w3 (g .0 .right) in
+      stop (at-move row (omega (arith, o .1, o .2)) w e ∙ neither-stop row w z) (subst (λ (r : Row). Neither (r .kind)) (sym e) z)
+  moves (spot (refer number) row force) g k =
+      let o = good-own table n s (spot (refer number) row force) g in
+      let R : List ℕ = rowsOf force in
+      let w : Row = referenceRow row number (getD R number 0) in
+      let f = entry-found number (total force) row force (refer-known s (length R) number (g .0 .right)) (g .2) (g .1) k in
+      let q : total force ≡ 1 + total force - 1 = omega arith in
+      on (getD R number 0)
+      (at-move row (omega (arith, o .1, o .2)) w (refer-row table n s row R number (g .0)) ∙ rw (lt-ltb (getD R number 0) row (f .1)))
+      (subst (λ (y : ℕ). Found table n s y (getD R number 0)) q (f .0))
+  moves (spot (hold kind count ts) row force) g k =
+      let o = good-own table n s (spot (hold kind count ts) row force) g in
+      let w : Row = holderRow kind (row + (1 + sizes ts)) count in
+      let e : rowAt table row ≡ w = hold-row table n s row (rowsOf force) kind count ts (g .0) in
+      let z : Neither kind = hold-neither s (length (rowsOf force)) kind count ts (g .0 .right) in
+      stop (at-move row (omega (arith, o .1, o .2)) w e ∙ neither-stop row w z) (subst (λ (r : Row). Neither (r .kind)) (sym e) z)
+  moves (spot (declare count es t) row force) g k =
+      let x : Spot = spot (declare count es t) row force in
+      let o = good-own table n s x g in
+      let end : ℕ = row + (1 + (sizes es + size t)) in
+      let w : Row = declarationRow end count in
+      let f = declare-fine s (length (rowsOf force)) count es t (g .0 .right) in
+      let c = value-right es t (row + 1) end nil (children-good table n s x g) (omega arith) in
+      on (row + 1 + sizes es)
+      (at-move row (omega (arith, o .1, o .2)) w (declare-row table n s row (rowsOf force) count es t (g .0)) ∙ ap (λ (y : ℕ). valueRow table n end y (row + 1)) (sym (f .2)) ∙ c)
+      (declared-last es t (row + 1) (1 + (sizes es + size t) + total force - 1) nil (children-good table n s x g) (declared-snug es t (row + 1) (1 + (sizes es + size t) + total force - 1) nil tt (omega arith)))
+
+  weight-pos : (x : Spot) → 0 < weight x
+  weight-pos (spot t row force) = omega (arith, size-pos t)
+
+  one-more : (left : ℕ) (x : Spot) (done : ℕ) → Good table n s x → weight x ≤ suc left
+      → ((y : Spot) → Good table n s y → Snug y → weight y ≤ left → Ended table n (done + 1 + weight y) (chase table n left (rowOf y) (done + 1)))
+      → Moves x → Ended table n (done + weight x) (chase table n (suc left) (rowOf x) done)
+  unfolding chase
+  one-more left x done g l rest (stop e z) =
+      let o = good-own table n s x g in
+      record {
+        row = rowOf x;
+        bound = rowAt table (rowOf x) .end;
+        moves = done;
+        is = ap (λ (m : Move). chased m (At (rowOf x) (rowAt table (rowOf x) .end) done) (λ next. chase table n left next (done + 1))) e;
+        few = omega (arith, weight-pos x);
+        below = omega (arith, o .1, o .2);
+        end = refl;
+        neither = z;
+      }
+  one-more left x done g l rest (on row e f) =
+      let r = rest (f .there) (f .good) (f .snug) (omega (arith, f .light, weight-pos x)) in
+      record {
+        row = r .row;
+        bound = r .bound;
+        moves = r .moves;
+        is =
+            ap (λ (m : Move). chased m (At (rowOf x) (rowAt table (rowOf x) .end) done) (λ next. chase table n left next (done + 1))) e
+            ∙ ap (λ (y : ℕ). chase table n left y (done + 1)) (sym (f .is)) ∙ r .is;
+        few = omega (arith, r .few, f .light, weight-pos x);
+        below = r .below;
+        end = r .end;
+        neither = r .neither;
+      }
+
+  ended : (left : ℕ) (x : Spot) (done : ℕ) → Good table n s x → Snug x → weight x ≤ left → Ended table n (done + weight x) (chase table n left (rowOf x) done)
+  ended zero x done g k l = absurd (omega (arith, weight-pos x))
+  ended (suc left) x done g k l = one-more left x done g l (λ y h j m. ended left y (done + 1) h j m) (moves x g k)
+
+-- ---- a table that passed the check
+
+-- resolving from any row ends, in fewer moves than rows, at a row that is neither a reference nor a declaration
+pub resolve-ends : (depth : ℕ) (table : List ℕ) (n : ℕ) (s : List ℕ) (t : Tree) → Stands depth table n s t → (row : ℕ) → row < n → Ended table n n (resolve table n row)
+unfolding resolve Snug
+resolve-ends depth table n s t st row h =
+    let f = find table n s n row t 0 nil (root-good depth table n s t st) tt (omega (arith, st .rows)) (omega arith) (omega (arith, st .rows)) in
+    let e = ended table n s n (f .there) 0 (f .good) (f .snug) (f .light) in
+    record {
+      row = e .row;
+      bound = e .bound;
+      moves = e .moves;
+      is = rw (le-leb n (lent table) (st .held)) (ap (λ (x : ℕ). chase table n n x 0) (sym (f .is)) ∙ e .is);
+      few = omega (arith, e .few, f .light);
+      below = e .below;
+      end = e .end;
+      neither = e .neither;
+    }
