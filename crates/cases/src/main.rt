@@ -1,11 +1,4 @@
 // Lists many documents, each behind two bytes that are its length, low byte first.
-ghost use Prim.Native.Nat.{_<_};
-
-fn number(b: u8) -> usize
-    ensures { λ r. ⌜ r < 256 ⌝ }
-{
-    b as usize
-}
 
 // One document, or false at the end of the input.
 fn one() -> bool {
@@ -14,7 +7,7 @@ fn one() -> bool {
     if got < 2 {
         return false;
     }
-    let size = number(length[0]) + 256 * number(length[1]);
+    let size = feed::number(&length, 0, 2) as usize;
     let mut input = io::large_buffer();
     list_sized(&mut input, size)
 }

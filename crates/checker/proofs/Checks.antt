@@ -32,10 +32,6 @@ use Rattle.checker.proofs.Leaves.{ends-grown}
 
 -- ---- one value position
 
-suc-pred : (d : ℕ) → (d ≡ 0 → ⊥) → suc (d - 1) ≡ d
-suc-pred zero l = absurd (l refl)
-suc-pred (suc d) l = omega arith
-
 grow-row : (d : ℕ) (table : List ℕ) (n : ℕ) (s : List ℕ) (registry : List ℕ) (row : ℕ) (w : Row) (x : Shape) → row < n → w ≡ rowAt table row
     → x ≡ shapeOf s (w .kind) (w .w0) (w .w1) (w .w2) (w .w3)
     → grownOf (grow (suc d) table n s registry row) ≡ endingAt (w .end) (grownOf (byShape (grow d table n s) d table n s registry row w x))
@@ -58,7 +54,8 @@ module _ (d : ℕ) (table : List ℕ) (n : ℕ) (s : List ℕ) (registry : List 
   pub value-in : (w : Row) (x : Shape) (g r : Grown) → (d ≡ 0 → ⊥) → row < n → w ≡ rowAt table row → x ≡ shapeOf s (w .kind) (w .w0) (w .w1) (w .w2) (w .w3)
       → g ≡ grownOf (byShape (grow (d - 1) table n s) (d - 1) table n s registry row w x) → r ≡ endingAt (w .end) g → r ≡ grownOf (grow d table n s registry row)
   value-in w x g r left h q e f j =
-      subst (λ (y : ℕ). r ≡ grownOf (grow y table n s registry row)) (suc-pred d left) (j ∙ ap (endingAt (w .end)) f ∙ sym (grow-row (d - 1) table n s registry row w x h q e))
+      let p : suc (d - 1) ≡ d = omega arith in
+      subst (λ (y : ℕ). r ≡ grownOf (grow y table n s registry row)) p (j ∙ ap (endingAt (w .end)) f ∙ sym (grow-row (d - 1) table n s registry row w x h q e))
 
 -- ---- a row by its shape; d levels are left below it
 

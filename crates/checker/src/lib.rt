@@ -14,7 +14,7 @@ use grown::Grown;
 use rows::Row;
 
 // The same with positions down to `depth`.
-fn check_within(table: &[u32], n: usize, data: &[u8], depth: usize) -> Checked
+pub fn check_within(table: &[u32], n: usize, data: &[u8], depth: usize) -> Checked
     requires { ⌜ depth ≤ depthLimit ⌝ }
     ensures { λ r. ⌜ r ≡ checked depth (now (table .entry)) n (now («data» .entry)) ⌝ }
 {

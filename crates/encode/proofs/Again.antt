@@ -35,7 +35,7 @@ use Rattle.rules.specs.Fine.{LeafFine, plain, damaged, HoldFine, holder, foreig
 use Rattle.rules.proofs.Judged.{span-within}
 use Rattle.rules.proofs.Says.{Names, names, blank-first}
 use Rattle.rules.proofs.Read.{force-next}
-use Rattle.encode.specs.Encode.{leafHead, hasBytes, payload, holdHead, encode, encodes, placed, placeds}
+use Rattle.encode.specs.Encode.{holderCount, headFor, hasBytes, payload, encode, encodes, placed, placeds}
 use Rattle.encode.proofs.Moved.{told, value-moved}
 use Rattle.encode.proofs.Fronts.{Stand, stand-first, stand-second, array-front, record-front, map-front, reference-front, declaration-front, foreign-front}
 use Rattle.encode.proofs.Leaves.{payload-few, payload-there, key-back}
@@ -130,15 +130,15 @@ module _ (s s′ : List ℕ) (d k at stop : ℕ) (short : length s′ ≤ limit)
 
 leaf-again : (s s′ : List ℕ) (d k at stop : ℕ) → length s′ ≤ limit → (kind w0 w1 w2 w3 : ℕ) → LeafWords kind w0 w1 w2 w3 → LeafFine s d k kind w0 w1 w2 w3
     → Stand s′ at stop (encode s (leaf kind w0 w1 w2 w3)) → value (suc d) s′ k at stop ≡ right (placed s (leaf kind w0 w1 w2 w3) at) (at + length (encode s (leaf kind w0 w1 w2 w3)))
-unfolding encode placed leafHead fits
+unfolding encode placed headFor fits
 leaf-again s s′ d k at stop short kind w0 w1 w2 w3 w (plain e) h =
     let t = told-of s kind w0 w1 w2 w3 shape.Leaf e (λ z. let y : _≡_ {A = ℕ} 0 1 = cc in omega arith) in
     leaf-back s s′ d k at stop short kind w0 w1 w2 w3 w (named kind w2) (names kind w2) (t .right) (t .is) h
 leaf-again s s′ d k at stop short kind w0 w1 w2 w3 w (damaged e r place v u) h =
     let t = told-of s kind w0 w1 w2 w3 shape.Damaged e (λ z. let y : _≡_ {A = ℕ} 0 1 = cc in omega arith) in
     let q : named kind w2 ≡ Damaged = damaged-kind (named kind w2) (t .is) in
-    subst (λ (K : Kind). Stand s′ at stop (leafHead kind w0 w1 w2 w3 K ++ payload s w0 w1 K)
-    → value (suc d) s′ k at stop ≡ right (leaf kind (cond (hasBytes K) (at + length (leafHead kind w0 w1 w2 w3 K)) w0) w1 w2 w3) (at + length (leafHead kind w0 w1 w2 w3 K ++ payload s w0 w1 K))) (sym q)
+    subst (λ (K : Kind). Stand s′ at stop (headFor kind w0 w1 w2 w3 0 K ++ payload s w0 w1 K)
+    → value (suc d) s′ k at stop ≡ right (leaf kind (cond (hasBytes K) (at + length (headFor kind w0 w1 w2 w3 0 K)) w0) w1 w2 w3) (at + length (headFor kind w0 w1 w2 w3 0 K ++ payload s w0 w1 K))) (sym q)
     (damaged-back s s′ d k at stop short kind w0 w1 w2 w3 (subst (λ (K : Kind). Names K kind) q (names kind w2)) (subst (λ (K : Kind). fits s w0 w1 w2 w3 K ≡ true) q (t .right)) r place v u) h
 
 -- ---- a key
@@ -158,10 +158,10 @@ key-leaf s s′ at stop short kind w0 w1 w2 w3 m f h =
     ap (keyed s′) (key-back s′ at stop (take w1 (drop w0 s)) w1 (z .long) short (z .said) h) ∙ ap₂ right (cc) next
 
 key-again : (s s′ : List ℕ) (at stop : ℕ) → length s′ ≤ limit → (t : Tree) → KeyFine s t → Stand s′ at stop (encode s t) → keyed s′ (keyAt s′ at stop) ≡ right (placed s t at) (at + length (encode s t))
-unfolding KeyFine encode placed leafHead
+unfolding KeyFine encode placed headFor
 key-again s s′ at stop short (leaf kind w0 w1 w2 w3) f h =
-    subst (λ (K : Kind). Stand s′ at stop (leafHead kind w0 w1 w2 w3 K ++ payload s w0 w1 K)
-    → keyed s′ (keyAt s′ at stop) ≡ right (leaf kind (cond (hasBytes K) (at + length (leafHead kind w0 w1 w2 w3 K)) w0) w1 w2 w3) (at + length (leafHead kind w0 w1 w2 w3 K ++ payload s w0 w1 K))) (sym (key-named kind w2 (f .0)))
+    subst (λ (K : Kind). Stand s′ at stop (headFor kind w0 w1 w2 w3 0 K ++ payload s w0 w1 K)
+    → keyed s′ (keyAt s′ at stop) ≡ right (leaf kind (cond (hasBytes K) (at + length (headFor kind w0 w1 w2 w3 0 K)) w0) w1 w2 w3) (at + length (headFor kind w0 w1 w2 w3 0 K ++ payload s w0 w1 K))) (sym (key-named kind w2 (f .0)))
     (λ g. key-leaf s s′ at stop short kind w0 w1 w2 w3 (f .0) (f .1) g) h
 key-again s s′ at stop short (refer number) f h = absurd f
 key-again s s′ at stop short (hold kind count ts) f h = absurd f
@@ -193,7 +193,7 @@ child-again s s′ short t own d Growing k i at stop f w h = own d i at stop f w
 
 -- ---- holders
 
-hold-kind : (K : Kind) (h : Holder) → shapeFor K ≡ shape.Hold h → K ≡ Holds h
+pub hold-kind : (K : Kind) (h : Holder) → shapeFor K ≡ shape.Hold h → K ≡ Holds h
 hold-kind Constant h e = cc
 hold-kind Small h e = cc
 hold-kind Signed h e = cc
@@ -209,7 +209,7 @@ hold-kind Whole h e = cc
 hold-kind Damaged h e = cc
 hold-kind Other h e = cc
 
-whole-kind : (K : Kind) → shapeFor K ≡ shape.Whole → K ≡ Whole
+pub whole-kind : (K : Kind) → shapeFor K ≡ shape.Whole → K ≡ Whole
 whole-kind Constant e = cc
 whole-kind Small e = cc
 whole-kind Signed e = cc
@@ -226,11 +226,10 @@ whole-kind Damaged e = cc
 whole-kind Other e = cc
 
 -- the head of each holder
-holder-front : (s : List ℕ) (at stop n : ℕ) → n ≤ limit → (h : Holder) (m : ℕ) → Stand s at stop (holdHead n m (Holds h)) → headAt s at stop ≡ stand.Hold h n (at + length (holdHead n m (Holds h)))
-unfolding holdHead
-holder-front s at stop n few Array m g = array-front s at stop n few g
-holder-front s at stop n few Record m g = record-front s at stop n few g
-holder-front s at stop n few Map m g = map-front s at stop n few g
+holder-front : (s : List ℕ) (at stop n : ℕ) → n ≤ limit → (h : Holder) → Stand s at stop (form (holderCount h) n) → headAt s at stop ≡ stand.Hold h n (at + length (form (holderCount h) n))
+holder-front s at stop n few Array g = array-front s at stop n few g
+holder-front s at stop n few Record g = record-front s at stop n few g
+holder-front s at stop n few Map g = map-front s at stop n few g
 
 one-child : (R : Reader) (s : List ℕ) (k at stop : ℕ) (ts : Trees) (last : ℕ) → run R Plain s k 0 1 at stop ≡ ran ts last → (t : Tree) × (R k at stop ≡ right t last) × (ts ≡ more t none)
 unfolding run child
@@ -247,30 +246,29 @@ Agains s s′ ts = (d : ℕ) (c : Children) (k i at stop : ℕ) → Fines s d c 
 
 module _ (s s′ : List ℕ) (short : length s′ ≤ limit) where
   holder-again : (kind count : ℕ) (ts : Trees) → Agains s s′ ts → (d k at stop : ℕ) → count ≤ limit → Wordeds ts → (h : Holder) → kind ≡ kindOf h → many ts ≡ childCount h count
-      → Fines s d (childrenOf h) k 0 ts → Stand s′ at stop (holdHead count (length (encodes s ts)) (Holds h) ++ encodes s ts)
-      → value (suc d) s′ k at stop ≡ right (hold kind count (placeds s ts (at + length (holdHead count (length (encodes s ts)) (Holds h)))))
-      (at + length (holdHead count (length (encodes s ts)) (Holds h) ++ encodes s ts))
+      → Fines s d (childrenOf h) k 0 ts → Stand s′ at stop (form (holderCount h) count ++ encodes s ts)
+      → value (suc d) s′ k at stop ≡ right (hold kind count (placeds s ts (at + length (form (holderCount h) count)))) (at + length (form (holderCount h) count ++ encodes s ts))
   holder-again kind count ts own d k at stop few w h m num f g =
       let E : List ℕ = encodes s ts in
-      let H : List ℕ = holdHead count (length E) (Holds h) in
+      let H : List ℕ = form (holderCount h) count in
       let p : ℕ = at + length H in
       let r : run (value d s′) (childrenOf h) s′ k 0 (childCount h count) p stop ≡ ran (placeds s ts p) (p + length E) =
       ap (λ (i : ℕ). run (value d s′) (childrenOf h) s′ k 0 i p stop) (sym num)
       ∙ own d (childrenOf h) k 0 p stop (subst (λ (i : ℕ). Fines s d (childrenOf h) i 0 ts) (sym (around-force h k 0)) f) w (stand-second s′ at stop H E g) in
       let next : p + length E ≡ at + length (H ++ E) = omega (arith, length-append H E) in
-      clauses.value-held d s′ k at stop (headAt s′ at stop) refl h count p (holder-front s′ at stop count few h (length E) (stand-first s′ at stop H E g)) (placeds s ts p) (p + length E) r
+      clauses.value-held d s′ k at stop (headAt s′ at stop) refl h count p (holder-front s′ at stop count few h (stand-first s′ at stop H E g)) (placeds s ts p) (p + length E) r
       ∙ ap₂ (λ (i j : ℕ). right (hold i count (placeds s ts p)) j) (sym m) next
 
   hold-again : (kind count : ℕ) (ts : Trees) → Agains s s′ ts → (d k at stop : ℕ) → count ≤ limit → Wordeds ts → (h : Holder) → shapeOf s kind count 0 0 0 ≡ shape.Hold h → many ts ≡ childCount h count
       → Fines s d (childrenOf h) k 0 ts → Stand s′ at stop (encode s (hold kind count ts))
       → value (suc d) s′ k at stop ≡ right (placed s (hold kind count ts) at) (at + length (encode s (hold kind count ts)))
-  unfolding encode placed
+  unfolding encode placed headFor
   hold-again kind count ts own d k at stop few w h e num f g =
       let L : ℕ = length (encodes s ts) in
       let t = told-of s kind count 0 0 0 (shape.Hold h) e (λ z. let y : _≡_ {A = ℕ} 0 1 = cc in omega arith) in
       let q : named kind 0 ≡ Holds h = hold-kind (named kind 0) h (t .is) in
-      subst (λ (K : Kind). Stand s′ at stop (holdHead count L K ++ encodes s ts)
-      → value (suc d) s′ k at stop ≡ right (hold kind count (placeds s ts (at + length (holdHead count L K)))) (at + length (holdHead count L K ++ encodes s ts))) (sym q)
+      subst (λ (K : Kind). Stand s′ at stop (headFor kind count 0 0 0 L K ++ encodes s ts)
+      → value (suc d) s′ k at stop ≡ right (hold kind count (placeds s ts (at + length (headFor kind count 0 0 0 L K)))) (at + length (headFor kind count 0 0 0 L K ++ encodes s ts))) (sym q)
       (λ x. holder-again kind count ts own d k at stop few w h (subst (λ (K : Kind). Names K kind) q (names kind 0)) num f x) g
 
   body-again : (kind count : ℕ) (ts : Trees) → Agains s s′ ts → (d k at stop : ℕ) → Wordeds ts → kind ≡ kindForeign → count ≡ 0 → many ts ≡ 1
@@ -293,13 +291,13 @@ module _ (s s′ : List ℕ) (short : length s′ ≤ limit) where
   whole-again : (kind count : ℕ) (ts : Trees) → Agains s s′ ts → (d k at stop : ℕ) → Wordeds ts → shapeOf s kind count 0 0 0 ≡ shape.Whole → many ts ≡ 1
       → Fines s d Plain (inForeign k) 0 ts → Stand s′ at stop (encode s (hold kind count ts))
       → value (suc d) s′ k at stop ≡ right (placed s (hold kind count ts) at) (at + length (encode s (hold kind count ts)))
-  unfolding encode placed holdHead fits
+  unfolding encode placed headFor fits
   whole-again kind count ts own d k at stop w e num f g =
       let L : ℕ = length (encodes s ts) in
       let t = told-of s kind count 0 0 0 shape.Whole e (λ z. let y : _≡_ {A = ℕ} 0 1 = cc in omega arith) in
       let q : named kind 0 ≡ Whole = whole-kind (named kind 0) (t .is) in
-      subst (λ (K : Kind). Stand s′ at stop (holdHead count L K ++ encodes s ts)
-      → value (suc d) s′ k at stop ≡ right (hold kind count (placeds s ts (at + length (holdHead count L K)))) (at + length (holdHead count L K ++ encodes s ts))) (sym q)
+      subst (λ (K : Kind). Stand s′ at stop (headFor kind count 0 0 0 L K ++ encodes s ts)
+      → value (suc d) s′ k at stop ≡ right (hold kind count (placeds s ts (at + length (headFor kind count 0 0 0 L K)))) (at + length (headFor kind count 0 0 0 L K ++ encodes s ts))) (sym q)
       (λ x. body-again kind count ts own d k at stop w (subst (λ (K : Kind). Names K kind) q (names kind 0)) (blank-first count 0 0 0 (subst (λ (K : Kind). fits s count 0 0 0 K ≡ true) q (t .right))) num f x) g
 
   declare-again : (count : ℕ) (es : Trees) (t : Tree) → Agains s s′ es → Again s s′ t → (d k at stop : ℕ) → 0 < count → count ≤ limit → Wordeds es → Worded t → many es ≡ count

@@ -26,7 +26,7 @@ use Rattle.rules.specs.Grow.{isKey}
 use Rattle.rules.specs.Fine.{LeafFine, plain, damaged, KeyFine, Either, Fine, Fines}
 use Rattle.rules.proofs.Judged.{span-within}
 use Rattle.rules.proofs.Says.{spelt-within}
-use Rattle.encode.specs.Encode.{leafHead, hasBytes, payload, holdHead, encode, encodes, placed, placeds}
+use Rattle.encode.specs.Encode.{headFor, hasBytes, payload, encode, encodes, placed, placeds}
 use Rattle.encode.specs.Said.{bytes, group, under, none, more, saidLeaf, said, saids}
 use Rattle.encode.proofs.Fronts.{Stand, stand-first, stand-second}
 use Rattle.encode.proofs.Leaves.{payload-there}
@@ -64,13 +64,13 @@ leaf-inside s d k kind w0 w1 w2 w3 (damaged e r p v u) b =
 
 -- ---- a leaf
 
-leaf-like : (s s′ : List ℕ) (at stop kind w0 w1 w2 w3 : ℕ) (K : Kind) → (hasBytes K ≡ true → w0 + w1 ≤ length s) → Stand s′ at stop (leafHead kind w0 w1 w2 w3 K ++ payload s w0 w1 K)
-    → saidLeaf (hasBytes K) s′ kind (cond (hasBytes K) (at + length (leafHead kind w0 w1 w2 w3 K)) w0) w1 w2 w3 ≡ saidLeaf (hasBytes K) s kind w0 w1 w2 w3
+leaf-like : (s s′ : List ℕ) (at stop kind w0 w1 w2 w3 : ℕ) (K : Kind) → (hasBytes K ≡ true → w0 + w1 ≤ length s) → Stand s′ at stop (headFor kind w0 w1 w2 w3 0 K ++ payload s w0 w1 K)
+    → saidLeaf (hasBytes K) s′ kind (cond (hasBytes K) (at + length (headFor kind w0 w1 w2 w3 0 K)) w0) w1 w2 w3 ≡ saidLeaf (hasBytes K) s kind w0 w1 w2 w3
 leaf-like s s′ at stop kind w0 w1 w2 w3 K f = of (hasBytes K) f
   where
-    of : (b : Bool) → (b ≡ true → w0 + w1 ≤ length s) → Stand s′ at stop (leafHead kind w0 w1 w2 w3 K ++ cond b (take w1 (drop w0 s)) [])
-        → saidLeaf b s′ kind (cond b (at + length (leafHead kind w0 w1 w2 w3 K)) w0) w1 w2 w3 ≡ saidLeaf b s kind w0 w1 w2 w3
-    of true g h = ap (bytes kind w2 w3) (payload-there s′ at stop (leafHead kind w0 w1 w2 w3 K) (take w1 (drop w0 s)) w1 h (part-long s w0 w1 (g refl)))
+    of : (b : Bool) → (b ≡ true → w0 + w1 ≤ length s) → Stand s′ at stop (headFor kind w0 w1 w2 w3 0 K ++ cond b (take w1 (drop w0 s)) [])
+        → saidLeaf b s′ kind (cond b (at + length (headFor kind w0 w1 w2 w3 0 K)) w0) w1 w2 w3 ≡ saidLeaf b s kind w0 w1 w2 w3
+    of true g h = ap (bytes kind w2 w3) (payload-there s′ at stop (headFor kind w0 w1 w2 w3 0 K) (take w1 (drop w0 s)) w1 h (part-long s w0 w1 (g refl)))
     of false g h = refl
 
 key-like : (s s′ : List ℕ) (at stop : ℕ) (t : Tree) → KeyFine s t → Stand s′ at stop (encode s t) → said s′ (placed s t at) ≡ said s t
@@ -95,7 +95,7 @@ module _ (s s′ : List ℕ) where
     alike (leaf kind w0 w1 w2 w3) d k at stop f h = leaf-like s s′ at stop kind w0 w1 w2 w3 (named kind w2) (leaf-inside s (d - 1) k kind w0 w1 w2 w3 (f .1)) h
     alike (refer number) d k at stop f h = refl
     alike (hold kind count ts) d k at stop f h =
-        let H : List ℕ = holdHead count (length (encodes s ts)) (named kind 0) in
+        let H : List ℕ = headFor kind count 0 0 0 (length (encodes s ts)) (named kind 0) in
         ap (group kind count) (alikes ts (d - 1) (f .1 .0) (f .1 .1) 0 (at + length H) stop (f .1 .3) (stand-second s′ at stop H (encodes s ts) h))
     alike (declare count es t) d k at stop f h =
         let F : List ℕ = form declarationCount count in

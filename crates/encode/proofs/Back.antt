@@ -40,7 +40,7 @@ use Rattle.rules.specs.declared.shape.Shape.the-variants as shape
 use Rattle.rules.specs.Shape.{blank, inside, oneOf, wellFormed, span, spelt, fits, shapeFor}
 use Rattle.rules.proofs.Says.{Names, blank-first, blank-second, blank-third, blank-fourth}
 use Rattle.rules.proofs.Judged.{span-within}
-use Rattle.encode.specs.Encode.{placeIn, floatMarker, leafHead, hasBytes, payload}
+use Rattle.encode.specs.Encode.{placeIn, floatMarker, headFor, hasBytes, payload}
 use Rattle.encode.proofs.Fronts.{Stand, no-alone}
 use Rattle.encode.proofs.Leaves.{constant-back, text-back, binary-back, float-back, char-back, small-back, signed-back, unsigned-back, body-there}
 
@@ -103,10 +103,10 @@ float-marker n e = by-size (λ m. (3 ≤ 3 + placeIn floatSizes m) × (3 + place
 
 module _ (s s′ : List ℕ) (d k at stop : ℕ) (short : length s′ ≤ limit) (kind w0 w1 w2 w3 : ℕ) (w : LeafWords kind w0 w1 w2 w3) where
   abbrev pub B : Kind → List ℕ
-  B K = leafHead kind w0 w1 w2 w3 K ++ payload s w0 w1 K
+  B K = headFor kind w0 w1 w2 w3 0 K ++ payload s w0 w1 K
 
   abbrev pub T : Kind → Tree
-  T K = leaf kind (cond (hasBytes K) (at + length (leafHead kind w0 w1 w2 w3 K)) w0) w1 w2 w3
+  T K = leaf kind (cond (hasBytes K) (at + length (headFor kind w0 w1 w2 w3 0 K)) w0) w1 w2 w3
 
   N : ℕ
   N = valueOf (words w0 w1 w2 w3)
@@ -173,7 +173,7 @@ module _ (s s′ : List ℕ) (d k at stop : ℕ) (short : length s′ ≤ limit)
   P = take w1 (drop w0 s)
 
   pub leaf-back : (K : Kind) → Names K kind → fits s w0 w1 w2 w3 K ≡ true → shapeFor K ≡ shape.Leaf → Stand s′ at stop (B K) → value (suc d) s′ k at stop ≡ right (T K) (at + length (B K))
-  unfolding fits leafHead leafOf N
+  unfolding fits headFor leafOf N
   leaf-back Constant m f e h = constant-leaf m f h
   leaf-back Small m f e h = small-leaf m f (subst (Stand s′ at stop) (append-nil (form integerSigned N)) h) ∙ ap (λ (x : ℕ). right (leaf kind w0 w1 w2 w3) (at + x)) (sym (long-nil (form integerSigned N)))
   leaf-back Signed m f e h = signed-leaf m (not-false _ f) (subst (Stand s′ at stop) (append-nil (form integerSigned N)) h) ∙ ap (λ (x : ℕ). right (leaf kind w0 w1 w2 w3) (at + x)) (sym (long-nil (form integerSigned N)))

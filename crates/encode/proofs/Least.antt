@@ -47,7 +47,7 @@ use Rattle.rules.specs.declared.kind.Kind.the-variants.{Constant, Small, Signed
 use Rattle.rules.specs.Shape.{named}
 use Rattle.rules.proofs.Read.{marker-has, small-words, small-both}
 use Rattle.wide.proofs.Runs.{number-has}
-use Rattle.encode.specs.Encode.{leafHead, hasBytes, payload, holdHead, encode, encodes}
+use Rattle.encode.specs.Encode.{holderCount, headFor, hasBytes, payload, encode, encodes}
 use Rattle.format.proofs.Heads.{IntegerAt, Payload, floating, written, plain, ContentAt, Stood, head-stood}
 use Rattle.format.proofs.Values.{ReadAt, value-read, document-value, document-next}
 use Rattle.encode.proofs.Fronts.{no-alone, limit-whole}
@@ -117,7 +117,7 @@ LeastContent at (holds.Char c) = Unit {0}
 
 abbrev LeastHead : ℕ → Head → Type 0
 LeastHead at (stand.Leaf c next) = LeastContent at c
-LeastHead at (stand.Hold h n next) = at + length (holdHead n 0 (Holds h)) ≤ next
+LeastHead at (stand.Hold h n next) = at + length (form (holderCount h) n) ≤ next
 LeastHead at (stand.Refer n next) = at + length (form referenceNumber n) ≤ next
 LeastHead at (stand.Declare n next) = at + length (form declarationCount n) ≤ next
 LeastHead at (stand.Foreign place n) = at + length (form foreignLength n) ≤ place
@@ -153,7 +153,7 @@ module _ (s : List ℕ) (b : Bytes s) (at stop : ℕ) where
       (λ _. tt))
 
   stands-least : (c : ℕ) (m : Marker) → LeastHead at (stands s at stop c m)
-  unfolding stands holdHead
+  unfolding stands
   stands-least c constant = tt
   stands-least c small = tt
   stands-least c signedBody = bodied-least at (holds.Integer true (at + 1) (sizeAt (c - 0x10))) (at + 1) (sizeAt (c - 0x10)) stop tt
@@ -182,19 +182,19 @@ part-short : (s : List ℕ) (place n : ℕ) → length (take n (drop place s)) �
 part-short s place n = omega (arith, length-take n (drop place s), min-le-left n (length (drop place s)))
 
 -- a leaf with a payload of n bytes
-span-least : (s : List ℕ) (kind place n at : ℕ) (K : Kind) → named kind 0 ≡ K → hasBytes K ≡ true → at + length (leafHead kind place n 0 0 K) ≤ place → at + length (encode s (leaf kind place n 0 0)) ≤ place + n
+span-least : (s : List ℕ) (kind place n at : ℕ) (K : Kind) → named kind 0 ≡ K → hasBytes K ≡ true → at + length (headFor kind place n 0 0 0 K) ≤ place → at + length (encode s (leaf kind place n 0 0)) ≤ place + n
 unfolding encode
 span-least s kind place n at K e h l =
-    subst (λ (J : Kind). at + length (leafHead kind place n 0 0 J ++ payload s place n J) ≤ place + n) (sym e)
-    (rw h (omega (arith, l, length-append (leafHead kind place n 0 0 K) (take n (drop place s)), part-short s place n)))
+    subst (λ (J : Kind). at + length (headFor kind place n 0 0 0 J ++ payload s place n J) ≤ place + n) (sym e)
+    (rw h (omega (arith, l, length-append (headFor kind place n 0 0 0 K) (take n (drop place s)), part-short s place n)))
 
 -- one without
-plain-least : (s : List ℕ) (kind w0 w1 w2 w3 at next : ℕ) (K : Kind) → named kind w2 ≡ K → hasBytes K ≡ false → at + length (leafHead kind w0 w1 w2 w3 K) ≤ next
+plain-least : (s : List ℕ) (kind w0 w1 w2 w3 at next : ℕ) (K : Kind) → named kind w2 ≡ K → hasBytes K ≡ false → at + length (headFor kind w0 w1 w2 w3 0 K) ≤ next
     → at + length (encode s (leaf kind w0 w1 w2 w3)) ≤ next
 unfolding encode
 plain-least s kind w0 w1 w2 w3 at next K e h l =
-    subst (λ (J : Kind). at + length (leafHead kind w0 w1 w2 w3 J ++ payload s w0 w1 J) ≤ next) (sym e)
-    (rw h (omega (arith, l, ap length (append-nil (leafHead kind w0 w1 w2 w3 K)))))
+    subst (λ (J : Kind). at + length (headFor kind w0 w1 w2 w3 0 J ++ payload s w0 w1 J) ≤ next) (sym e)
+    (rw h (omega (arith, l, ap length (append-nil (headFor kind w0 w1 w2 w3 0 K)))))
 
 constant-named : (kind : ℕ) → 1 ≤ kind → kind ≤ 3 → named kind 0 ≡ Constant
 unfolding named
@@ -227,7 +227,7 @@ body-read s b at next place n sign w u =
     subst (λ (z : ℕ). Held sign z (bodyValue sign (take n (drop place s)))) l (body-held sign (take n (drop place s)) (bytes-take n (drop place s) (bytes-drop place s b)) (omega (arith, l, w .few)))
 
 integer-least : (s : List ℕ) → Bytes s → (at next place n : ℕ) (sign : Bool) → IntegerAt at next place n → next ≤ length s → at + length (encode s (leafOf s (holds.Integer sign place n))) ≤ next
-unfolding leafOf leafHead named
+unfolding leafOf headFor named
 integer-least s b at next place n true w u =
     let M : ℕ = bodyValue true (take n (drop place s)) in
     let x : Wide = wideOf M in
@@ -246,13 +246,13 @@ integer-least s b at next place n false w u =
     (λ e. rw e (plain-least s kindUnsigned (x .w0) (x .w1) (x .w2) (x .w3) at next Unsigned refl refl (rw q (omega (arith, w .begins, w .ends, body-length false M n (w .rank) (k .small) e (w .sized) (w .ranked) (k .near))))))
 
 payload-least : (s : List ℕ) (at next kind place n : ℕ) → at < place → place + n ≡ next → LeastContent at (holds.Span kind place n) → Payload s kind place n → at + length (encode s (leaf kind place n 0 0)) ≤ next
-unfolding leafHead named
+unfolding headFor named
 payload-least s at next kind place n h e l (floating x a b k z) = subst (λ (y : ℕ). at + length (encode s (leaf kind place n 0 0)) ≤ y) e (span-least s kind place n at Float (rw k) refl (omega arith))
 payload-least s at next kind place n h e l (written k z) = subst (λ (y : ℕ). at + length (encode s (leaf kind place n 0 0)) ≤ y) e (span-least s kind place n at Spelt (rw k) refl (l .0 k))
 payload-least s at next kind place n h e l (plain k) = subst (λ (y : ℕ). at + length (encode s (leaf kind place n 0 0)) ≤ y) e (span-least s kind place n at Binary (rw k) refl (l .1 k))
 
 content-least : (s : List ℕ) → Bytes s → (at next : ℕ) (c : Content) → ContentAt s at next c → LeastContent at c → next ≤ length s → at + length (encode s (leafOf s c)) ≤ next
-unfolding leafOf leafHead named
+unfolding leafOf headFor named
 content-least s b at next (holds.Constant kind) w l u =
     plain-least s kind 0 0 0 0 at next Constant (constant-named kind (w .low) (w .high)) refl (omega (arith, w .ends))
 content-least s b at next (holds.Small marker) w l u =
@@ -277,7 +277,7 @@ LeastRun s at (broke e place) = Unit {0}
 
 -- a key
 key-least : (s : List ℕ) → Bytes s → (at stop : ℕ) → LeastRead s at (keyed s (keyAt s at stop))
-unfolding keyAt leafOf leafHead named
+unfolding keyAt leafOf headFor named
 key-least s b at stop = of (countAt keyLength s at stop) refl
   where
     spelled-key : (t : Text) (n place : ℕ) → at + length (form keyLength n) ≤ place → LeastRead s at (keyed s (spelled at t (stand.Leaf (holds.Span kindKey place n) (place + n))))
@@ -304,9 +304,9 @@ damaged-named why.Deep = refl
 damaged-named why.Extra = refl
 
 damaged-least : (s : List ℕ) (at place n : ℕ) (e : Refusal) → at + length (form foreignLength n) ≤ place → at + length (encode s (leaf kindForeign place n (refusalNumber e) 0)) ≤ place + n
-unfolding encode leafHead
+unfolding encode headFor
 damaged-least s at place n e l =
-    subst (λ (J : Kind). at + length (leafHead kindForeign place n (refusalNumber e) 0 J ++ payload s place n J) ≤ place + n) (sym (damaged-named e))
+    subst (λ (J : Kind). at + length (headFor kindForeign place n (refusalNumber e) 0 0 J ++ payload s place n J) ≤ place + n) (sym (damaged-named e))
     (omega (arith, l, length-append (form foreignLength n) (take n (drop place s)), part-short s place n))
 
 module _ (s : List ℕ) (b : Bytes s) (few : length s ≤ limit) (d : ℕ) (good : (k at stop : ℕ) → stop ≤ length s → LeastRead s at (value d s k at stop)) where
@@ -334,8 +334,8 @@ module _ (s : List ℕ) (b : Bytes s) (few : length s ≤ limit) (d : ℕ) (good
   run-least c k i zero at stop l = omega arith
   run-least c k i (suc n) at stop l = follow-least at (child c (value d s) s k i at stop) (child-least c k i at stop l) _ (λ m. run-least c k (i + 1) n m stop l)
 
-  held-least : (h : Holder) (at n next : ℕ) (q : Run) → at + length (holdHead n 0 (Holds h)) ≤ next → LeastRun s next q → LeastRead s at (held (kindOf h) n q)
-  unfolding encode holdHead named
+  held-least : (h : Holder) (at n next : ℕ) (q : Run) → at + length (form (holderCount h) n) ≤ next → LeastRun s next q → LeastRead s at (held (kindOf h) n q)
+  unfolding encode headFor named
   held-least Array at n next (ran ts m) l g = omega (arith, l, g, length-append (form arrayCount n) (encodes s ts))
   held-least Record at n next (ran ts m) l g = omega (arith, l, g, length-append (form recordCount n) (encodes s ts))
   held-least Map at n next (ran ts m) l g = omega (arith, l, g, length-append (form mapCount n) (encodes s ts))
@@ -353,7 +353,7 @@ module _ (s : List ℕ) (b : Bytes s) (few : length s ≤ limit) (d : ℕ) (good
 
   whole-least : (at place n m : ℕ) (t : Tree) → at + length (form foreignLength n) ≤ place → n ≤ limit → place + length (encode s t) ≤ m → m ≤ place + n
       → at + length (encode s (hold kindForeign 0 (more t none))) ≤ place + n
-  unfolding encode holdHead named
+  unfolding encode headFor named
   whole-least at place n m t l u g r =
       let E : List ℕ = encode s t ++ [] in
       let e : length E ≡ length (encode s t) = ap length (append-nil (encode s t)) in

@@ -21,7 +21,7 @@ use Rattle.rules.specs.Grow.{isKey}
 use Rattle.rules.specs.Fine.{KeyFine, Either, Fine, Fines}
 use Rattle.rules.proofs.Says.{spelt-within}
 use Rattle.rules.proofs.Read.{document-fine}
-use Rattle.encode.specs.Encode.{leafHead, hasBytes, holdHead, encode, encodes}
+use Rattle.encode.specs.Encode.{headFor, hasBytes, encode, encodes}
 use Rattle.encode.specs.Said.{Said, words, bytes, entry, group, under, none, more, saidLeaf, said, saids}
 use Rattle.encode.proofs.Back.{part-long}
 use Rattle.encode.proofs.Alike.{leaf-inside}
@@ -67,19 +67,19 @@ mutual
 -- ---- leaves that say the same
 
 -- what stands before a payload does not depend on its place
-head-free : (kind a b w1 w2 w3 : ℕ) (K : Kind) → hasBytes K ≡ true → leafHead kind a w1 w2 w3 K ≡ leafHead kind b w1 w2 w3 K
-unfolding leafHead
+head-free : (kind a b w1 w2 w3 : ℕ) (K : Kind) → hasBytes K ≡ true → headFor kind a w1 w2 w3 0 K ≡ headFor kind b w1 w2 w3 0 K
+unfolding headFor
 head-free kind a b w1 w2 w3 Constant h = cc
 head-free kind a b w1 w2 w3 Small h = cc
 head-free kind a b w1 w2 w3 Signed h = cc
 head-free kind a b w1 w2 w3 Unsigned h = cc
 head-free kind a b w1 w2 w3 Float h = refl
 head-free kind a b w1 w2 w3 Text h = refl
-head-free kind a b w1 w2 w3 (Holds x) h = refl
+head-free kind a b w1 w2 w3 (Holds x) h = cc
 head-free kind a b w1 w2 w3 Binary h = refl
 head-free kind a b w1 w2 w3 Char h = cc
-head-free kind a b w1 w2 w3 Reference h = refl
-head-free kind a b w1 w2 w3 Declaration h = refl
+head-free kind a b w1 w2 w3 Reference h = cc
+head-free kind a b w1 w2 w3 Declaration h = cc
 head-free kind a b w1 w2 w3 Whole h = refl
 head-free kind a b w1 w2 w3 Damaged h = refl
 head-free kind a b w1 w2 w3 Other h = refl
@@ -93,7 +93,7 @@ module _ (s s′ : List ℕ) (kind w0 w1 w2 w3 kind′ v0 v1 v2 v3 : ℕ) where
 
   leaf-length : (b b′ : Bool) → hasBytes K ≡ b → hasBytes K′ ≡ b′ → (b ≡ true → w0 + w1 ≤ length s) → (b′ ≡ true → v0 + v1 ≤ length s′)
       → saidLeaf b s kind w0 w1 w2 w3 ≡ saidLeaf b′ s′ kind′ v0 v1 v2 v3
-      → length (leafHead kind w0 w1 w2 w3 K ++ cond b (take w1 (drop w0 s)) []) ≡ length (leafHead kind′ v0 v1 v2 v3 K′ ++ cond b′ (take v1 (drop v0 s′)) [])
+      → length (headFor kind w0 w1 w2 w3 0 K ++ cond b (take w1 (drop w0 s)) []) ≡ length (headFor kind′ v0 v1 v2 v3 0 K′ ++ cond b′ (take v1 (drop v0 s′)) [])
   leaf-length true true e e′ h h′ q =
       let P : List ℕ = take w1 (drop w0 s) in
       let P′ : List ℕ = take v1 (drop v0 s′) in
@@ -102,7 +102,7 @@ module _ (s s′ : List ℕ) (kind w0 w1 w2 w3 kind′ v0 v1 v2 v3 : ℕ) where
       let c : w2 ≡ v2 = cc in
       let d : w3 ≡ v3 = cc in
       let f : w1 ≡ v1 = sym (part-long s w0 w1 (h refl)) ∙ ap length p ∙ part-long s′ v0 v1 (h′ refl) in
-      let g : leafHead kind w0 w1 w2 w3 K ≡ leafHead kind′ v0 v1 v2 v3 K′ = head-free kind w0 v0 w1 w2 w3 K e ∙ cc (a, c, d, f) in
+      let g : headFor kind w0 w1 w2 w3 0 K ≡ headFor kind′ v0 v1 v2 v3 0 K′ = head-free kind w0 v0 w1 w2 w3 K e ∙ cc (a, c, d, f) in
       ap₂ (λ (x y : List ℕ). length (x ++ y)) g p
   leaf-length true false e e′ h h′ q = absurd (let z : _≡_ {A = ℕ} 0 1 = cc in omega arith)
   leaf-length false true e e′ h h′ q = absurd (let z : _≡_ {A = ℕ} 0 1 = cc in omega arith)
@@ -112,7 +112,7 @@ module _ (s s′ : List ℕ) (kind w0 w1 w2 w3 kind′ v0 v1 v2 v3 : ℕ) where
       let c : w1 ≡ v1 = cc in
       let d : w2 ≡ v2 = cc in
       let f : w3 ≡ v3 = cc in
-      let g : leafHead kind w0 w1 w2 w3 K ≡ leafHead kind′ v0 v1 v2 v3 K′ = cc in
+      let g : headFor kind w0 w1 w2 w3 0 K ≡ headFor kind′ v0 v1 v2 v3 0 K′ = cc in
       ap (λ (x : List ℕ). length (x ++ [])) g
 
 -- ---- trees that say the same
@@ -149,9 +149,9 @@ mutual
       let c : count ≡ count′ = cc in
       let q : saids s ts ≡ saids s′ us = cc in
       let l : length (encodes s ts) ≡ length (encodes s′ us) = same-lengths s s′ ts us h h′ q in
-      let H : List ℕ = holdHead count (length (encodes s ts)) (named kind 0) in
-      let H′ : List ℕ = holdHead count′ (length (encodes s′ us)) (named kind′ 0) in
-      let g : H ≡ H′ = ap₂ (λ (x y : ℕ). holdHead x y (named kind 0)) c l ∙ ap (λ (x : ℕ). holdHead count′ (length (encodes s′ us)) (named x 0)) a in
+      let H : List ℕ = headFor kind count 0 0 0 (length (encodes s ts)) (named kind 0) in
+      let H′ : List ℕ = headFor kind′ count′ 0 0 0 (length (encodes s′ us)) (named kind′ 0) in
+      let g : H ≡ H′ = ap₂ (λ (x y : ℕ). headFor kind x 0 0 0 y (named kind 0)) c l ∙ ap (λ (x : ℕ). headFor x count′ 0 0 0 (length (encodes s′ us)) (named x 0)) a in
       length-append H (encodes s ts) ∙ ap₂ (λ (x y : ℕ). x + y) (ap length g) l ∙ sym (length-append H′ (encodes s′ us))
   same-length s s′ (hold kind count ts) (declare c us u) h h′ e = absurd (omega (arith, ap tag e))
   same-length s s′ (declare count es t) (leaf k v0 v1 v2 v3) h h′ e = absurd (omega (arith, tag-leaf (hasBytes (named k v2)) s′ k v0 v1 v2 v3, ap tag e))

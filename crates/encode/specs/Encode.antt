@@ -6,8 +6,9 @@ use lib.ListN.{length, take, drop}
 use lib.Dec.{eqb}
 use Rattle.wide.specs.Number.{bytesOf}
 use Rattle.wide.specs.Words.{valueOf, words}
-use Rattle.wide.specs.Family.{form}
+use Rattle.wide.specs.Family.{Family, form}
 use Rattle.wide.specs.Members.{integerSigned, integerUnsigned, textLength, binaryLength, arrayCount, recordCount, mapCount, keyLength, referenceNumber, declarationCount, foreignLength}
+use Rattle.format.specs.declared.head.Holder.{Holder}
 use Rattle.format.specs.declared.head.Holder.the-variants.{Array, Record, Map}
 use Rattle.format.specs.Tree.{Tree, leaf, refer, hold, declare, Trees, none, more}
 use Rattle.format.specs.Head.{floatSizes}
@@ -24,22 +25,29 @@ placeIn (m ∷ ms) n = cond (eqb n m) 0 (suc (placeIn ms n))
 unfoldable pub floatMarker : ℕ → ℕ
 floatMarker size = 0x03 + placeIn floatSizes size
 
--- what stands before a leaf's payload: the words w0..w3 of a row of kind k, and what that kind names; `Other` is a key
-unfoldable pub leafHead : ℕ → ℕ → ℕ → ℕ → ℕ → Kind → List ℕ
-leafHead k w0 w1 w2 w3 Constant = (k - 1) ∷ []
-leafHead k w0 w1 w2 w3 Small = form integerSigned (valueOf (words w0 w1 w2 w3))
-leafHead k w0 w1 w2 w3 Signed = form integerSigned (valueOf (words w0 w1 w2 w3))
-leafHead k w0 w1 w2 w3 Unsigned = form integerUnsigned (valueOf (words w0 w1 w2 w3))
-leafHead k w0 w1 w2 w3 Float = floatMarker w1 ∷ []
-leafHead k w0 w1 w2 w3 Text = form textLength w1
-leafHead k w0 w1 w2 w3 (Holds holder) = []
-leafHead k w0 w1 w2 w3 Binary = form binaryLength w1
-leafHead k w0 w1 w2 w3 Char = 0xc0 ∷ bytesOf 3 w0
-leafHead k w0 w1 w2 w3 Reference = []
-leafHead k w0 w1 w2 w3 Declaration = []
-leafHead k w0 w1 w2 w3 Whole = []
-leafHead k w0 w1 w2 w3 Damaged = form foreignLength w1
-leafHead k w0 w1 w2 w3 Other = form keyLength w1
+-- the counts of holders
+abbrev pub holderCount : Holder → Family
+holderCount Array = arrayCount
+holderCount Record = recordCount
+holderCount Map = mapCount
+
+-- What stands before a row's payload, or before its children, which take `size` bytes: a row of kind k with the words w0..w3, and what that
+-- kind names; `Other` is a key. "The length of a whole body is written before the body."
+unfoldable pub headFor : ℕ → ℕ → ℕ → ℕ → ℕ → ℕ → Kind → List ℕ
+headFor k w0 w1 w2 w3 size Constant = (k - 1) ∷ []
+headFor k w0 w1 w2 w3 size Small = form integerSigned (valueOf (words w0 w1 w2 w3))
+headFor k w0 w1 w2 w3 size Signed = form integerSigned (valueOf (words w0 w1 w2 w3))
+headFor k w0 w1 w2 w3 size Unsigned = form integerUnsigned (valueOf (words w0 w1 w2 w3))
+headFor k w0 w1 w2 w3 size Float = floatMarker w1 ∷ []
+headFor k w0 w1 w2 w3 size Text = form textLength w1
+headFor k w0 w1 w2 w3 size (Holds holder) = form (holderCount holder) w0
+headFor k w0 w1 w2 w3 size Binary = form binaryLength w1
+headFor k w0 w1 w2 w3 size Char = 0xc0 ∷ bytesOf 3 w0
+headFor k w0 w1 w2 w3 size Reference = form referenceNumber w0
+headFor k w0 w1 w2 w3 size Declaration = form declarationCount w0
+headFor k w0 w1 w2 w3 size Whole = form foreignLength size
+headFor k w0 w1 w2 w3 size Damaged = form foreignLength w1
+headFor k w0 w1 w2 w3 size Other = form keyLength w1
 
 -- "7 float, 8 text, 12 binary, 17 key | w0 place in the data, w1 size"; "a damaged body's bytes count as payload"
 abbrev pub hasBytes : Kind → Bool
@@ -62,31 +70,12 @@ hasBytes Other = true
 abbrev pub payload : List ℕ → ℕ → ℕ → Kind → List ℕ
 payload s w0 w1 kind = cond (hasBytes kind) (take w1 (drop w0 s)) []
 
--- what stands before a holder's children, which take `size` bytes; "The length of a whole body is written before the body."
-unfoldable pub holdHead : ℕ → ℕ → Kind → List ℕ
-holdHead count size (Holds Array) = form arrayCount count
-holdHead count size (Holds Record) = form recordCount count
-holdHead count size (Holds Map) = form mapCount count
-holdHead count size Whole = form foreignLength size
-holdHead count size Constant = []
-holdHead count size Small = []
-holdHead count size Signed = []
-holdHead count size Unsigned = []
-holdHead count size Float = []
-holdHead count size Text = []
-holdHead count size Binary = []
-holdHead count size Char = []
-holdHead count size Reference = []
-holdHead count size Declaration = []
-holdHead count size Damaged = []
-holdHead count size Other = []
-
 -- "It writes each value in the fewest bytes its kind and size of float allow, keeping declarations and foreign headers."
 unfoldable mutual
   pub encode : List ℕ → Tree → List ℕ
-  encode s (leaf kind w0 w1 w2 w3) = leafHead kind w0 w1 w2 w3 (named kind w2) ++ payload s w0 w1 (named kind w2)
+  encode s (leaf kind w0 w1 w2 w3) = headFor kind w0 w1 w2 w3 0 (named kind w2) ++ payload s w0 w1 (named kind w2)
   encode s (refer number) = form referenceNumber number
-  encode s (hold kind count ts) = holdHead count (length (encodes s ts)) (named kind 0) ++ encodes s ts
+  encode s (hold kind count ts) = headFor kind count 0 0 0 (length (encodes s ts)) (named kind 0) ++ encodes s ts
   encode s (declare count es t) = form declarationCount count ++ (encodes s es ++ encode s t)
 
   pub encodes : List ℕ → Trees → List ℕ
@@ -97,9 +86,9 @@ unfoldable mutual
 unfoldable mutual
   pub placed : List ℕ → Tree → ℕ → Tree
   placed s (leaf kind w0 w1 w2 w3) at =
-      leaf kind (cond (hasBytes (named kind w2)) (at + length (leafHead kind w0 w1 w2 w3 (named kind w2))) w0) w1 w2 w3
+      leaf kind (cond (hasBytes (named kind w2)) (at + length (headFor kind w0 w1 w2 w3 0 (named kind w2))) w0) w1 w2 w3
   placed s (refer number) at = refer number
-  placed s (hold kind count ts) at = hold kind count (placeds s ts (at + length (holdHead count (length (encodes s ts)) (named kind 0))))
+  placed s (hold kind count ts) at = hold kind count (placeds s ts (at + length (headFor kind count 0 0 0 (length (encodes s ts)) (named kind 0))))
   placed s (declare count es t) at =
       declare count (placeds s es (at + length (form declarationCount count))) (placed s t (at + length (form declarationCount count) + length (encodes s es)))
 

@@ -97,7 +97,7 @@ module _ (depth : ℕ) (table : List ℕ) (n : ℕ) (s : List ℕ) where
   -- ---- a right tree
 
   module _ (t : Tree) (st : Stands depth table n s t) where
-    stands-grows : grow (suc depth) table n s [] 0 ≡ grew t n
+    pub stands-grows : grow (suc depth) table n s [] 0 ≡ grew t n
     stands-grows =
         let w : table ≡ layout t 0 [] ++ drop (wordsPerRow * n) table =
         sym (take-append-drop (wordsPerRow * n) table) ∙ ap (λ (x : List ℕ). x ++ drop (wordsPerRow * n) table) (st .words) in
@@ -116,7 +116,7 @@ module _ (depth : ℕ) (table : List ℕ) (n : ℕ) (s : List ℕ) where
 
 -- ---- what is read
 
-record Read (depth : ℕ) (s table : List ℕ) (n : ℕ) : Type 0 where
+pub record Read (depth : ℕ) (s table : List ℕ) (n : ℕ) : Type 0 where
   pub short : length s ≤ limit
   pub tree : Tree
   pub next : ℕ
@@ -133,7 +133,7 @@ accepted-for rows n (right t next) e = go (leb (size t) rows) refl e
     go false q e = absurd (let z : _≡_ {A = ℕ} 0 1 = cc in omega arith)
 accepted-for rows n (wrong r place) e = absurd (let z : _≡_ {A = ℕ} 0 1 = cc in omega arith)
 
-accepted : (depth : ℕ) (s table : List ℕ) (n : ℕ) → answer depth s table ≡ Accepted n → Read depth s table n
+pub accepted : (depth : ℕ) (s table : List ℕ) (n : ℕ) → answer depth s table ≡ Accepted n → Read depth s table n
 unfolding answer
 accepted depth s table n e = go (leb (length s) limit) refl e
   where

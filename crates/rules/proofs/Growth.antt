@@ -1,6 +1,6 @@
 -- What grows is right: the table has the layout of the tree, row after row, and the tree is fine. Assumes nothing.
 use mathlib.Core.Path.{_≡_, refl, sym, ap, ap₂, _∙_, subst}
-use Prim.Native.Nat.{ℕ, zero, suc, _+_, _-_, _*_, _≤_, _<_}
+use Prim.Native.Nat.{ℕ, zero, suc, _+_, _*_, _≤_, _<_}
 use native.Mathlib.Omega.{arith}
 use native.Mathlib.Nat.{add-zero, zero-add}
 use mathlib.Core.Bool.{Bool, true, false, cond, _&&_}
@@ -24,6 +24,7 @@ use Rattle.rules.specs.declared.shape.Shape.the-variants.{Bad, Leaf, Ref
 use Rattle.rules.specs.Shape.{spelt, shapeOf}
 use Rattle.rules.specs.Grow.{Growth, grew, bad, Growths, grewAll, badAll, Grower, isKey, leafAt, endsAt, keyRow, growKey, item, before, follow, grows, held, closed, declared, damaged, referred, byShape, rowGrows, grow}
 use Rattle.rules.specs.Fine.{plain, damaged as spoilt, HoldFine, holder, foreign, KeyFine, Either, after, Fine, Fines}
+use Rattle.rules.proofs.Levels.{down}
 use Rattle.rules.proofs.Says.{Says, says}
 use Rattle.lists.proofs.Tests.{and-first, and-second}
 use Rattle.format.specs.Refusal.{numberOf as refusalNumber}
@@ -81,9 +82,6 @@ glue R R′ X D₂ a e b = a ∙ ap₂ (λ (r d : List ℕ). r ++ d) e b ∙ sym
 words-same : (q r : Row) → q .kind ≡ r .kind → q .end ≡ r .end → q .w0 ≡ r .w0 → q .w1 ≡ r .w1 → q .w2 ≡ r .w2 → q .w3 ≡ r .w3 → wordsOf q ≡ wordsOf r
 unfolding wordsOf
 words-same q r a b c d e f = cc
-
-down : (d : ℕ) → suc d - 1 ≡ d
-down d = omega arith
 
 module _ (table : List ℕ) (n : ℕ) (s : List ℕ) (room : n ≤ lent table) where
   own-words : (row : ℕ) → row < n → drop (wordsPerRow * row) table ≡ wordsOf (rowAt table row) ++ drop (wordsPerRow * (row + 1)) table

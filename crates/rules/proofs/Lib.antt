@@ -1,4 +1,5 @@
 -- Laws that belong to no one function.
+pub mod Levels
 pub mod Judged
 pub mod Says
 pub mod Growth

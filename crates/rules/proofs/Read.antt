@@ -41,6 +41,7 @@ use Rattle.rules.specs.declared.shape.Shape.the-variants.{Leaf, Hold, Wh
 use Rattle.rules.specs.Shape.{named, blank, inside, isSmall, oneOf, span, spelt, fits, shapeOf}
 use Rattle.rules.specs.Grow.{isKey}
 use Rattle.rules.specs.Fine.{plain, damaged, holder, foreign, KeyFine, Either, after, Fine, Fines}
+use Rattle.rules.proofs.Levels.{down}
 use Rattle.format.specs.Refusal.{numberOf as refusalNumber}
 
 -- ---- leaves
@@ -199,9 +200,6 @@ pub force-next : (c : Children) (k i : ℕ) → after (isEntry c) (inForce c k i
 force-next Plain k i = refl
 force-next Keyed k i = refl
 force-next Growing k i = refl
-
-down : (d : ℕ) → suc d - 1 ≡ d
-down d = omega arith
 
 module _ (s : List ℕ) (d : ℕ) (good : (k at stop : ℕ) → stop ≤ length s → FineAt (Fine s d k) (value d s k at stop)) where
   turn-fine : (b : Bool) (k at stop : ℕ) → stop ≤ length s → FineAt (λ t. Either b (KeyFine s t) (Fine s d k t)) (inTurn b (value d s) s k at stop)

@@ -4,9 +4,11 @@ mod kind;
 mod shape;
 mod words;
 
+pub use judge::named;
 pub use kind::Kind;
 pub use shape::Shape;
 pub use words::spelt;
+pub use words::wide_of;
 ghost use mathlib.Core.Path.{_≡_};
 ghost use Rattle.rules.specs.Shape.{shapeOf};
 use rows::Row;

@@ -53,9 +53,9 @@ fn one() -> bool {
     if got < 8 {
         return false;
     }
-    let words = feed::half(&front, 0) as usize;
-    let n = feed::word(&front, 2) as usize;
-    let size = feed::half(&front, 6) as usize;
+    let words = feed::number(&front, 0, 2) as usize;
+    let n = feed::number(&front, 2, 4) as usize;
+    let size = feed::number(&front, 6, 2) as usize;
     let mut input = io::large_buffer();
     check_sized(&mut input, words, n, size)
 }

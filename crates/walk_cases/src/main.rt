@@ -45,14 +45,25 @@ fn show_payload(bytes: &[u8]) {
     io::write_all(STDOUT_FILENO, &out[..end]);
 }
 
+// Where an ask is made from. The walker itself says where a walk starts.
+fn standing(n: usize, row: usize, bound: usize) -> Standing {
+    if row == 0 {
+        if bound == n {
+            return walker::start(n);
+        }
+    }
+    Standing { row, bound }
+}
+
 // One ask: 0 in, 1 on, 2 along, 3 resolve, 4 payload.
 fn ask(table: &[u32], n: usize, data: &[u8], op: u8, row: usize, bound: usize) {
+    let at = standing(n, row, bound);
     if op == 0 {
-        show_step(walker::step_in(table, n, Standing { row, bound }));
+        show_step(walker::step_in(table, n, at));
     } else if op == 1 {
-        show_step(walker::step_on(table, n, Standing { row, bound }));
+        show_step(walker::step_on(table, n, at));
     } else if op == 2 {
-        show_step(walker::step_along(table, n, Standing { row, bound }));
+        show_step(walker::step_along(table, n, at));
     } else if op == 3 {
         show_resolved(walker::resolve(table, n, row));
     } else if op == 4 {
@@ -65,8 +76,8 @@ fn each(table: &[u32], n: usize, data: &[u8], asks: &[u8]) {
     let mut left = asks.len();
     while 9 <= left {
         let at = asks.len() - left;
-        let row = feed::word(asks, at + 1) as usize;
-        let bound = feed::word(asks, at + 5) as usize;
+        let row = feed::number(asks, at + 1, 4) as usize;
+        let bound = feed::number(asks, at + 5, 4) as usize;
         ask(table, n, data, asks[at], row, bound);
         left -= 9;
     }
@@ -112,10 +123,10 @@ fn one() -> bool {
     if got < 10 {
         return false;
     }
-    let words = feed::half(&front, 0) as usize;
-    let n = feed::word(&front, 2) as usize;
-    let size = feed::half(&front, 6) as usize;
-    let asks = feed::half(&front, 8) as usize;
+    let words = feed::number(&front, 0, 2) as usize;
+    let n = feed::number(&front, 2, 4) as usize;
+    let size = feed::number(&front, 6, 2) as usize;
+    let asks = feed::number(&front, 8, 2) as usize;
     let mut input = io::large_buffer();
     walk_sized(&mut input, words, n, size, asks)
 }

@@ -1,11 +1,11 @@
 -- The moves of resolving, a law for each way out of the code. Assumes nothing.
 use mathlib.Core.Path.{_≡_, refl, sym, ap, _∙_}
-use mathlib.Core.Bool.{Bool, true, false, cond, _&&_}
+use mathlib.Core.Bool.{Bool, cond, _&&_}
 use mathlib.Core.List.{List}
-use Prim.Native.Nat.{ℕ, zero, suc, _+_, _-_, _≤_, _<_}
+use Prim.Native.Nat.{ℕ, suc, _+_, _-_, _≤_, _<_}
 use native.Mathlib.Omega.{arith}
 use native.Mathlib.Nat.{sub-zero}
-use lib.Dec.{ltb, leb, eqb}
+use lib.Dec.{ltb, leb}
 use borrow.Author.Tests.{lt-ltb, le-ltb, le-leb, lt-leb, eq-eqb, ne-eqb, ltb-true}
 use Rattle.wide.proofs.Ranks.{bool-case}
 use Rattle.rows.specs.declared.row.Row.{Row}
@@ -18,10 +18,6 @@ use Rattle.walker.specs.declared.resolved.Resolved.the-variants.{At, Bad
 use Rattle.walker.specs.Resolve.{valueRow, moveFrom, moveAt, chase, chased, resolve}
 
 -- ---- past the entries
-
-suc-pred : (m : ℕ) → 0 < m → suc (m - 1) ≡ m
-suc-pred zero h = absurd (omega arith)
-suc-pred (suc m) h = omega arith
 
 -- `left` entries are left from `at` on, and the rest from there makes the whole
 pub record Past (table : List ℕ) (n end entries row left at : ℕ) : Type 0 where
@@ -40,7 +36,7 @@ module _ (table : List ℕ) (n end entries row left at : ℕ) (v : Past table n 
 
     one : valueRow table n end left at ≡ cond (ltb at n && (ltb at E && leb E end)) (valueRow table n end (left - 1) E) go.Broken
     unfolding valueRow
-    one = ap (λ (m : ℕ). valueRow table n end m at) (sym (suc-pred left some))
+    one = let e : left ≡ suc (left - 1) = omega arith in ap (λ (m : ℕ). valueRow table n end m at) e
 
     pub past-out : n ≤ at → go.Broken ≡ W
     past-out h = sym (one ∙ rw (le-ltb at n h)) ∙ v .same

@@ -1,11 +1,12 @@
 -- Payloads, a law for each way out of the code. Assumes nothing.
-use mathlib.Core.Path.{_≡_, refl, sym, ap, ap₂, _∙_}
-use mathlib.Core.Bool.{Bool, true, false, cond, _&&_}
+use mathlib.Core.Path.{_≡_, ap, _∙_}
+use mathlib.Core.Bool.{Bool, true, false, _&&_}
 use mathlib.Core.List.{List}
 use Prim.Native.Nat.{ℕ, _+_, _-_, _≤_, _<_}
 use native.Mathlib.Omega.{arith}
 use lib.ListN.{length, take, drop}
 use lib.Dec.{ltb, leb}
+use denote.Ref.{RefT}
 use borrow.Author.Tests.{lt-ltb, le-ltb, le-leb, lt-leb, leb-true}
 use mir.Syntax.{w64}
 use mir.Val.{Fits}
@@ -14,7 +15,7 @@ use Rattle.wide.proofs.Families.{cond-case}
 use Rattle.rows.specs.declared.row.Row.{Row}
 use Rattle.rows.specs.Table.{rowAt, lent}
 use Rattle.walker.specs.declared.part.Part.{Part}
-use Rattle.walker.specs.Payload.{hasPayload, part, partOf, payloadAt, bytesOf}
+use Rattle.walker.specs.Payload.{hasPayload, part, partOf, payloadAt, partIn}
 
 module _ (table : List ℕ) (row : ℕ) (s : List ℕ) (l : ℕ) (is : l ≡ lent table) where
   pub part-out : l ≤ row → part 0 0 ≡ payloadAt table row s
@@ -59,7 +60,8 @@ module _ (table : List ℕ) (row : ℕ) (s : List ℕ) (p : Part) (is : p ≡ pa
   pub part-fits : Fits w64 (length s) → Fits w64 (p .place + p .size)
   part-fits f = omega (arith, part-within)
 
-  pub part-bytes : take (p .place + p .size - p .place) (drop (p .place) s) ≡ bytesOf (payloadAt table row s) s
-  part-bytes =
-      let e : p .place + p .size - p .place ≡ p .size = omega arith in
-      ap (λ (n : ℕ). take n (drop (p .place) s)) e ∙ ap (λ (q : Part). bytesOf q s) is
+-- the slice that the code cuts out is that part
+pub part-lies : (table : List ℕ) (row : ℕ) (d : RefT (List ℕ)) (p : Part) → p ≡ payloadAt table row (d .now) → ((d .ptr .0, p .place + d .ptr .1), take (p .place + p .size - p .place) (drop (p .place) (d .now))) ≡ partIn d (payloadAt table row (d .now))
+part-lies table row d p is =
+    let e : p .place + p .size - p .place ≡ p .size = omega arith in
+    ap (λ (n : ℕ). ((d .ptr .0, p .place + d .ptr .1), take n (drop (p .place) (d .now)))) e ∙ ap (partIn d) is

@@ -1,10 +1,10 @@
 -- Steps from a standing, a law for each way out of the code. Assumes nothing.
-use mathlib.Core.Path.{_≡_, refl, sym, ap, ap₂, _∙_}
+use mathlib.Core.Path.{_≡_, sym, ap, _∙_}
 use mathlib.Core.Bool.{Bool, true, false, _&&_}
 use mathlib.Core.List.{List}
 use Prim.Native.Nat.{ℕ, _+_, _≤_, _<_}
 use native.Mathlib.Omega.{arith}
-use lib.Dec.{ltb, leb, eqb}
+use lib.Dec.{ltb, leb}
 use borrow.Author.Tests.{lt-ltb, le-ltb, le-leb, lt-leb, eq-eqb, ne-eqb, ltb-true, leb-true}
 use mir.Syntax.{w64}
 use mir.Val.{Fits}
@@ -12,10 +12,9 @@ use Rattle.lists.proofs.Tests.{and-first, and-second}
 use Rattle.rows.specs.declared.row.Row.{Row}
 use Rattle.rows.specs.Table.{rowAt, lent}
 use Rattle.rows.specs.Kinds.{kindReference}
-use Rattle.walker.specs.declared.standing.Standing.{Standing}
 use Rattle.walker.specs.declared.step.Step.{Step}
 use Rattle.walker.specs.declared.step.Step.the-variants.{To, NoStep, BadTable}
-use Rattle.walker.specs.Walk.{standing, genuine, asked, inward, onward, alongside, stepIn, stepOn, stepAlong, stepStanding}
+use Rattle.walker.specs.Walk.{standing, genuine, stepIn, stepOn, stepAlong, stepStanding}
 
 -- ---- whether a standing is genuine
 

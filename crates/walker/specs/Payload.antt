@@ -3,6 +3,7 @@ use Prim.Native.Nat.{ℕ, _+_}
 use mathlib.Core.Bool.{Bool, cond, _&&_, _||_}
 use mathlib.Core.List.{List}
 use lib.ListN.{length, take, drop}
+use denote.Ref.{RefT}
 use lib.Dec.{ltb, leb, eqb}
 use Rattle.rows.specs.declared.row.Row.{Row}
 use Rattle.rows.specs.Table.{rowAt, lent}
@@ -26,3 +27,11 @@ payloadAt table row s = cond (ltb row (lent table)) (partOf (rowAt table row) s)
 -- the bytes of a part
 abbrev pub bytesOf : Part → List ℕ → List ℕ
 bytesOf p s = take (p .size) (drop (p .place) s)
+
+-- a lent slice as it lies in memory: where it begins, and its bytes
+abbrev pub lies : RefT (List ℕ) → (ℕ × ℕ) × List ℕ
+lies r = (r .ptr, r .now)
+
+-- "A row's payload .. is handed back as that part of the lent data": `place` bytes behind the front of the data, and no copy of them
+abbrev pub partIn : RefT (List ℕ) → Part → (ℕ × ℕ) × List ℕ
+partIn s p = ((s .ptr .0, p .place + s .ptr .1), bytesOf p (s .now))

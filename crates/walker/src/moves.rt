@@ -1,7 +1,7 @@
 // The moves of resolving.
 ghost use mathlib.Core.Path.{_≡_};
 ghost use Prim.Native.Nat.{_+_, _≤_, _<_};
-ghost use Rattle.rows.specs.Table.{rowAt, lent};
+ghost use Rattle.rows.specs.Table.{lent};
 ghost use Rattle.walker.specs.Resolve.{valueRow, moveAt};
 use crate::moved::Move;
 use rows::Row;

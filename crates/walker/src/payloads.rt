@@ -1,6 +1,6 @@
 // A row's payload.
 ghost use mathlib.Core.Path.{_≡_};
-ghost use Rattle.walker.specs.Payload.{hasPayload, payloadAt, bytesOf};
+ghost use Rattle.walker.specs.Payload.{hasPayload, payloadAt, lies, partIn};
 use crate::part::Part;
 use rows::Row;
 
@@ -41,9 +41,9 @@ pub fn payload_at(table: &[u32], row: usize, data: &[u8]) -> Part
     Part { place: 0, size: 0 }
 }
 
-// A row's payload, as that part of the data.
+// A row's payload, as that part of the lent data.
 pub fn payload<'a>(table: &[u32], row: usize, data: &'a [u8]) -> &'a [u8]
-    ensures { λ r. ⌜ now r ≡ bytesOf (payloadAt (now (table .entry)) row (now («data» .entry))) (now («data» .entry)) ⌝ }
+    ensures { λ r. ⌜ lies r ≡ partIn («data» .entry) (payloadAt (now (table .entry)) row (now («data» .entry))) ⌝ }
 {
     let p = payload_at(table, row, data);
     let from = p.place;

@@ -71,9 +71,10 @@ pub fn along_from(table: &[u32], n: usize, row: usize, bound: usize) -> Step
         }
         let entry = rows::number(w.w1);
         if entry < row {
+            let past = rows::number(rows::end_at(table, entry));
             return Step::To {
                 row: entry,
-                bound: rows::number(rows::end_at(table, entry)),
+                bound: past,
             };
         }
         return Step::BadTable;

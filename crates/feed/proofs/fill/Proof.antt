@@ -1,47 +1,18 @@
--- `feed::fill` is safe and ends: the table keeps its length, and each turn leaves fewer words. Assumes nothing.
-use mathlib.Core.Path.{_≡_, refl}
+-- `feed::fill` meets its contract. The invariant: filling what is left, from word `i` on, gives what filling the whole gives. Assumes nothing.
 use Prim.Native.Nat.{_-_}
-use native.Mathlib.Omega.{arith}
-use lib.ListN.{length, length-set}
 use borrow.Author.Needs.{needs}
+use Rattle.feed.proofs.Words.{Filling, fill-first, fill-next, fill-last}
 use Rattle.feed.proofs.fill.Statement.{statement}
 use Rattle.feed.proofs.fill.Tie as tie
 
 abbrev Inv-loop : tie.InvT-loop
-Inv-loop table₀ words s i₀ table i = length table ≡ length table₀
+Inv-loop table₀ words s i₀ table i = Filling table₀ words s table i
 
 abbrev μ-loop : tie.MeasureT-loop
 μ-loop table₀ words s i₀ table i = words - i
 
-loop-holds : tie.Need-loop-holds Inv-loop μ-loop
-loop-holds c = refl
-
-mul-word : tie.Need-mul-word Inv-loop μ-loop
-mul-word c = search needs
-
-word-requires : tie.Need-word-requires Inv-loop μ-loop
-word-requires c κs = search needs
-
-mul-table : tie.Need-mul-table Inv-loop μ-loop
-mul-table c = search needs
-
-slice-write-table : tie.Need-slice-write-table Inv-loop μ-loop
-slice-write-table c = search needs
-
-add-i : tie.Need-add-i Inv-loop μ-loop
-add-i c = search needs
-
-loop-less : tie.Need-loop-less Inv-loop μ-loop
-loop-less c = search needs
-
 loop-again : tie.Need-loop-again Inv-loop μ-loop
-loop-again c = simp length-set (omega arith)
-
-same-length : tie.Need-same-length Inv-loop μ-loop
-same-length c = search needs
-
-returns : tie.Need-returns Inv-loop μ-loop
-returns c = search needs
+loop-again c = search fill-next
 
 pub fill-spec : {M : Type 1} → statement M
 fill-spec =
@@ -49,13 +20,13 @@ fill-spec =
     (tie.spec
     Inv-loop
     μ-loop
-    loop-holds
-    mul-word
-    word-requires
-    mul-table
-    slice-write-table
-    add-i
-    loop-less
+    (λ c. search fill-first)
+    (λ c. search needs)
+    (λ c κs. search needs)
+    (λ c. search needs)
+    (λ c. search needs)
+    (λ c. search needs)
+    (λ c. search needs)
     loop-again
-    same-length
-    returns)
+    (λ c. c .before .loop .inv .long)
+    (λ c. search fill-last))

@@ -17,20 +17,20 @@ loop-holds c = search needs
 sub-at : tie.Need-sub-at Inv-loop μ-loop
 sub-at c = search needs
 
-add-word : tie.Need-add-word Inv-loop μ-loop
-add-word c = search needs
+add-number : tie.Need-add-number Inv-loop μ-loop
+add-number c = search needs
 
-word-requires : tie.Need-word-requires Inv-loop μ-loop
-word-requires c κs = search needs
+number-requires : tie.Need-number-requires Inv-loop μ-loop
+number-requires c κs = search needs
 
 cast-row : tie.Need-cast-row Inv-loop μ-loop
 cast-row c = search needs
 
-add-word-2 : tie.Need-add-word-2 Inv-loop μ-loop
-add-word-2 c = search needs
+add-number-2 : tie.Need-add-number-2 Inv-loop μ-loop
+add-number-2 c = search needs
 
-word-requires-2 : tie.Need-word-requires-2 Inv-loop μ-loop
-word-requires-2 c κs = search needs
+number-requires-2 : tie.Need-number-requires-2 Inv-loop μ-loop
+number-requires-2 c κs = search needs
 
 cast-bound : tie.Need-cast-bound Inv-loop μ-loop
 cast-bound c = search needs
@@ -58,11 +58,11 @@ each-spec =
     μ-loop
     loop-holds
     sub-at
-    add-word
-    word-requires
+    add-number
+    number-requires
     cast-row
-    add-word-2
-    word-requires-2
+    add-number-2
+    number-requires-2
     cast-bound
     shared-slice-read-ask
     ask-requires

@@ -1,6 +1,6 @@
 -- `walker::payloads::payload` meets its contract. Assumes nothing.
 use borrow.Author.Needs.{needs}
-use Rattle.walker.proofs.Parts.{part-fits, part-within, part-bytes}
+use Rattle.walker.proofs.Parts.{part-fits, part-within, part-lies}
 use Rattle.walker.proofs.payloads.payload.Statement.{statement}
 use Rattle.walker.proofs.payloads.payload.Tie as tie
 
@@ -20,7 +20,7 @@ part-result-end : tie.Need-part-result-end
 part-result-end c = search part-within
 
 returns : tie.Need-returns
-returns c = search part-bytes
+returns c = search part-lies
 
 pub payload-spec : {M : Type 1} → statement M
 payload-spec =

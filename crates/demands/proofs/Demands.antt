@@ -1,0 +1,175 @@
+-- The three demands, each theorem under its words. An auditor reads this file, and the definitions that it names; the promises of the public
+-- functions (docs/PROMISES.md) say that the code does what these definitions say, on every input and to the end. Assumes nothing.
+use mathlib.Core.Path.{_≡_, refl, sym, ap, _∙_, subst}
+use mathlib.Core.Bool.{Bool, true, false, cond, _&&_}
+use mathlib.Core.List.{List, [], map}
+use Prim.Native.Nat.{ℕ, suc, _+_, _^_, _≤_, _<_}
+use native.Mathlib.Omega.{arith}
+use lib.ListN.{length, getD, replicate}
+use lib.Seq.{sets}
+use lib.Dec.{leb}
+use borrow.Author.Tests.{le-leb, leb-false}
+use Rattle.lists.specs.Zeroed.{zeroed}
+use Rattle.lists.proofs.Zeros.{zeroed-all}
+use Rattle.wide.proofs.Numbers.{Bytes}
+use Rattle.rows.specs.Table.{rowAt, lent, limit}
+use Rattle.format.specs.declared.refusal.Refusal.{Refusal}
+use Rattle.format.specs.declared.answer.Answer.{Answer}
+use Rattle.format.specs.declared.answer.Answer.the-variants.{Accepted, TooLong, Refused, Full}
+use Rattle.format.specs.Tree.{Tree, size}
+use Rattle.format.specs.Value.{Reading, right, wrong, document}
+use Rattle.format.specs.Layout.{layout}
+use Rattle.format.specs.Answer.{answer, answerFor, filled, tableAfter}
+use Rattle.format.specs.Starred.{starred}
+use Rattle.format.proofs.Values.{document-next}
+use Rattle.rules.specs.Shape.{named}
+use Rattle.rules.specs.Grow.{rulesHold}
+use Rattle.rules.specs.Fine.{Stands}
+use Rattle.rules.proofs.Exact as exact
+use Rattle.checker.specs.declared.checked.Checked.the-variants.{Right}
+use Rattle.checker.specs.Checked.{checked}
+use Rattle.checker.proofs.Answers as check
+use Rattle.walker.specs.Walk.{startOf}
+use Rattle.walker.specs.Resolve.{resolve}
+use Rattle.walker.specs.Payload.{payloadAt}
+use Rattle.walks.specs.Spots.{spot, nil, treeOf, treeWalk, treeEnd, tableWalk, tableEnd, AllInTable, ownPart, Way}
+use Rattle.walks.proofs.Walked as walked
+use Rattle.walks.proofs.Meets as meets
+use Rattle.walks.proofs.Resolves as resolves
+use Rattle.encode.specs.Encode.{hasBytes}
+use Rattle.spell.specs.Own.{Inside}
+use Rattle.writer.specs.declared.written.Written.{Written}
+use Rattle.writer.specs.declared.written.Written.the-variants.{Done, BadTable, TooLarge, NoRoom}
+use Rattle.writer.specs.Written.{documentOf, written, left, outputAfter}
+use Rattle.writer.proofs.Asks.{yes-inside}
+use Rattle.demands.specs.Alike.{Alike}
+use Rattle.demands.specs.Back.{backOf, tableBack, ReadsBack}
+use Rattle.demands.specs.Starred.{outcome, wanted}
+use Rattle.demands.proofs.Reading as reading
+use Rattle.demands.proofs.Backs as backs
+use Rattle.demands.proofs.Starred as cases
+
+-- ==== Demand 1: "Every call ends on every input and does nothing undefined." That is what the check of each function's contract proves.
+
+module _ (depth : ℕ) (s table : List ℕ) where
+  -- "A refused read leaves the table all zeros"
+  pub refused-read-zeroes : ((n : ℕ) → answer depth s table ≡ Accepted n → ⊥) → tableAfter depth s table ≡ replicate (length table) 0
+  unfolding answer tableAfter
+  refused-read-zeroes = of (leb (length s) limit) (document depth s)
+    where
+      fill : (b : Bool) (t : Tree) → ((n : ℕ) → cond b (Accepted (size t)) (Full (size t)) ≡ Accepted n → ⊥)
+          → cond b (sets (zeroed 0 table) 0 (layout t 0 [])) (zeroed 0 table) ≡ replicate (length table) 0
+      fill true t f = absurd (f (size t) refl)
+      fill false t f = zeroed-all table
+
+      of : (b : Bool) (r : Reading) → ((n : ℕ) → cond b (answerFor (lent table) r) TooLong ≡ Accepted n → ⊥)
+          → cond b (filled (lent table) r table) (zeroed 0 table) ≡ replicate (length table) 0
+      of true (right t next) f = fill (leb (size t) (lent table)) t f
+      of true (wrong e place) f = zeroed-all table
+      of false r f = zeroed-all table
+
+-- "a refused write the output untouched"
+pub refused-write-keeps : (depth : ℕ) (table : List ℕ) (n : ℕ) (s out : List ℕ) → ((used : ℕ) → written depth table n s (length out) ≡ Done used → ⊥) → outputAfter depth table n s out ≡ out
+unfolding outputAfter
+refused-write-keeps depth table n s out = of (written depth table n s (length out))
+  where
+    of : (w : Written) → ((used : ℕ) → w ≡ Done used → ⊥) → left w (documentOf depth table n s) out ≡ out
+    of (Done used) f = absurd (f used refl)
+    of BadTable f = refl
+    of (TooLarge needed) f = refl
+    of (NoRoom needed) f = refl
+
+-- ==== Demand 2
+
+-- the tree of a document, to the last byte, with its rows, and the table that they are laid in
+pub record Read (depth : ℕ) (s table : List ℕ) (rows : ℕ) : Type 0 where
+  pub tree : Tree
+  pub document : document depth s ≡ right tree (length s)
+  pub rows-are : size tree ≡ rows
+
+module _ (depth : ℕ) (s table : List ℕ) where
+  -- "The reader accepts exactly the paper's documents, to the last byte"
+  pub accepts-documents : (n : ℕ) → answer depth s table ≡ Accepted n → Read depth s table n
+  accepts-documents n e =
+      let r = exact.accepted depth s table n e in
+      record { tree = r .tree; document = r .is ∙ ap (right (r .tree)) (document-next depth s (r .tree) (r .next) (r .is)); rows-are = r .rows }
+
+  pub documents-accepted : (t : Tree) (next : ℕ) → length s ≤ limit → document depth s ≡ right t next → size t ≤ lent table → answer depth s table ≡ Accepted (size t)
+  unfolding answer
+  documents-accepted t next few e room = rw (le-leb (length s) limit few, e, le-leb (size t) (lent table) room)
+
+  -- "and gives exactly its rows": they stand from the front, with zeros behind them
+  pub gives-rows : (t : Tree) (next : ℕ) → length s ≤ limit → document depth s ≡ right t next → size t ≤ lent table → tableAfter depth s table ≡ sets (replicate (length table) 0) 0 (layout t 0 [])
+  unfolding tableAfter
+  gives-rows t next few e room =
+      rw (le-leb (length s) limit few, e, le-leb (size t) (lent table) room, zeroed-all table)
+
+  -- "full is said only when the whole document is right and needs more rows than lent"
+  pub full-is-right : (needed : ℕ) → answer depth s table ≡ Full needed → Read depth s table needed × (lent table < needed)
+  unfolding answer
+  full-is-right needed = of (leb (length s) limit) (document depth s) refl
+    where
+      room : (b : Bool) (t : Tree) (next : ℕ) → leb (size t) (lent table) ≡ b → document depth s ≡ right t next → cond b (Accepted (size t)) (Full (size t)) ≡ Full needed
+          → Read depth s table needed × (lent table < needed)
+      room true t next q e f = absurd (let z : _≡_ {A = ℕ} 0 1 = cc in omega arith)
+      room false t next q e f =
+          let k : size t ≡ needed = cc in
+          (record { tree = t; document = e ∙ ap (right t) (document-next depth s t next e); rows-are = k }, omega (arith, k, leb-false (size t) (lent table) q))
+
+      of : (b : Bool) (r : Reading) → document depth s ≡ r → cond b (answerFor (lent table) r) TooLong ≡ Full needed → Read depth s table needed × (lent table < needed)
+      of true (right t next) e f = room (leb (size t) (lent table)) t next refl e f
+      of true (wrong y place) e f = absurd (let z : _≡_ {A = ℕ} 0 1 = cc in omega arith)
+      of false r e f = absurd (let z : _≡_ {A = ℕ} 0 1 = cc in omega arith)
+
+  -- what the reader lays passes the check
+  pub read-passes : (n : ℕ) → answer depth s table ≡ Accepted n → rulesHold depth (tableAfter depth s table) n s ≡ true
+  read-passes n e = exact.read-yes depth s table n e
+
+module _ (depth : ℕ) (table : List ℕ) (n : ℕ) (s : List ℕ) (fit : (i : ℕ) → getD table i 0 < 2 ^ 32) where
+  -- "A table that passes the check, written with room and within the size limit, reads back as the same rows and payload bytes, places aside"
+  pub reads-back : (room : ℕ) (back : List ℕ) → ReadsBack depth table n s room back (backOf depth table n s room back) (tableBack depth table n s room back)
+  reads-back room back = backs.reads-back depth table n s room back _ _ fit refl refl
+
+  -- "no document with those is shorter"
+  pub nothing-shorter : rulesHold depth table n s ≡ true → (s′ : List ℕ) → Bytes s′ → (table′ : List ℕ) (m : ℕ) → answer depth s′ table′ ≡ Accepted m
+      → Alike depth table n s (tableAfter depth s′ table′) m s′ → length (documentOf depth table n s) ≤ length s′
+  nothing-shorter y = reading.nothing-shorter depth table n s fit y
+
+-- "Starred cases are proved": one list, one statement
+pub starred-hold : map outcome starred ≡ map wanted starred
+starred-hold = cases.starred-hold
+
+-- ==== Demand 3
+
+module _ (depth : ℕ) (table : List ℕ) (n : ℕ) (s : List ℕ) where
+  -- "The check says yes exactly when the row rules hold": the first n rows are those of a right tree
+  pub yes-means : checked depth table n s ≡ Right n → (t : Tree) × Stands depth table n s t
+  yes-means e = check.yes-stands depth table n s n e
+
+  pub right-means-yes : (t : Tree) → Stands depth table n s t → checked depth table n s ≡ Right n
+  right-means-yes t st = check.stands-yes depth table n s t st
+
+  pub one-tree : (t u : Tree) → Stands depth table n s t → Stands depth table n s u → t ≡ u
+  one-tree = exact.one-tree depth table n s
+
+  module _ (t : Tree) (st : Stands depth table n s t) where
+    -- "After a yes, in, on and along from row 0, in any order and number, give what the rules say or 14"
+    pub walks-right : (ws : List Way) → tableWalk table n ws (startOf n) ≡ treeWalk ws (spot t 0 nil) nil
+    walks-right = walked.steps-right depth table n s t st
+
+    -- "always in the table"
+    pub walks-inside : (ws : List Way) → AllInTable n (tableWalk table n ws (startOf n))
+    walks-inside = meets.steps-inside depth table n s t st
+
+    -- the payload of a row that a walk comes to is the tree's
+    pub payload-right : (ws : List Way) → payloadAt table (tableEnd table n ws (startOf n) .row) s ≡ ownPart (treeOf (treeEnd ws (spot t 0 nil) nil))
+    payload-right = meets.payload-right depth table n s t st
+
+    -- "every payload lies in the data": of every row, a damaged body's too
+    pub payloads-inside : (row : ℕ) → row < n → hasBytes (named (rowAt table row .kind) (rowAt table row .w2)) ≡ true → rowAt table row .w0 + rowAt table row .w1 ≤ length s
+    unfolding Inside
+    payloads-inside = yes-inside depth table n s (exact.stands-yes depth table n s t st)
+
+    -- "resolving from any row ends in fewer moves than rows"
+    pub resolving-ends : (row : ℕ) → row < n → resolves.Ended table n n (resolve table n row)
+    resolving-ends = resolves.resolve-ends depth table n s t st

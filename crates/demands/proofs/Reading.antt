@@ -1,0 +1,103 @@
+-- A document that was written reads back, and no document that is read as it says is shorter: over tables. Assumes nothing.
+use mathlib.Core.Path.{_≡_, refl, sym, ap, ap₂, _∙_, subst}
+use mathlib.Core.Bool.{Bool, true, false, cond}
+use mathlib.Core.List.{List, [], _++_}
+use Prim.Native.Nat.{ℕ, suc, _+_, _*_, _^_, _≤_, _<_}
+use native.Mathlib.Omega.{arith}
+use lib.ListN.{length, getD, drop, take-append-drop}
+use lib.Dec.{leb}
+use borrow.Author.Tests.{le-leb}
+use Rattle.wide.proofs.Numbers.{Bytes}
+use Rattle.rows.specs.Table.{wordsPerRow, lent, limit}
+use Rattle.format.specs.declared.answer.Answer.the-variants.{Accepted}
+use Rattle.format.specs.Tree.{Tree, leaf, refer, hold, declare, Trees, none, more, size, sizes}
+use Rattle.format.specs.Value.{document, right}
+use Rattle.format.specs.Layout.{layout}
+use Rattle.format.specs.Answer.{answer, answerFor, tableAfter}
+use Rattle.format.proofs.Values.{Worded}
+use Rattle.rules.specs.Grow.{rulesHold}
+use Rattle.rules.specs.Fine.{Stands}
+use Rattle.rules.proofs.Exact.{yes-stands, stands-grows, stands-yes, accepted, read-stands}
+use Rattle.encode.specs.Encode.{encode, placed, placeds}
+use Rattle.encode.specs.Said.{said}
+use Rattle.encode.proofs.Alike as written
+use Rattle.encode.proofs.Shortest as shortest
+use Rattle.writer.specs.Written.{documentOf}
+use Rattle.writer.proofs.Asks.{stands-document}
+use Rattle.demands.specs.Alike.{says, saidBy, saying, Alike, SameRows}
+use Rattle.demands.proofs.Words.{tree-worded}
+use Rattle.demands.proofs.Rows.{placed-size, tree-same}
+
+-- the words of a table, its tree's first
+laid-out : (depth : ℕ) (table : List ℕ) (n : ℕ) (s : List ℕ) (t : Tree) → Stands depth table n s t → table ≡ layout t 0 [] ++ drop (wordsPerRow * n) table
+laid-out depth table n s t st = sym (take-append-drop (wordsPerRow * n) table) ∙ ap (λ (x : List ℕ). x ++ drop (wordsPerRow * n) table) (st .words)
+
+-- the tree that stands in a table is what the table says
+stands-saying : (depth : ℕ) (table : List ℕ) (n : ℕ) (s : List ℕ) (t : Tree) → Stands depth table n s t → saying depth table n s ≡ says (said s t)
+unfolding saying
+stands-saying depth table n s t st = ap (saidBy s) (stands-grows depth table n s t st)
+
+module _ (depth : ℕ) (table : List ℕ) (n : ℕ) (s : List ℕ) (fit : (i : ℕ) → getD table i 0 < 2 ^ 32) (yes : rulesHold depth table n s ≡ true) where
+  abbrev t : Tree
+  t = yes-stands depth table n s yes .0
+
+  st : Stands depth table n s t
+  st = yes-stands depth table n s yes .1
+
+  abbrev D : List ℕ
+  D = documentOf depth table n s
+
+  is : D ≡ encode s t
+  is = stands-document depth table n s t st
+
+  worded : Worded t
+  worded = tree-worded table s n (st .few) fit t (suc depth) 0 0 [] (drop (wordsPerRow * n) table) (omega arith) (st .fine) (laid-out depth table n s t st) (omega (arith, st .rows))
+
+  module _ (few : length D ≤ limit) where
+    small : length (encode s t) ≤ limit
+    small = omega (arith, few, ap length is)
+
+    reads : document depth D ≡ right (placed s t 0) (length D)
+    reads = subst (λ (x : List ℕ). document depth x ≡ right (placed s t 0) (length x)) (sym is) (written.reads-back depth s t (st .fine) worded small)
+
+    module _ (back : List ℕ) (room : n ≤ lent back) where
+      rows : size (placed s t 0) ≡ n
+      rows = placed-size s t 0 ∙ st .rows
+
+      -- it is accepted
+      pub accepted-back : answer depth D back ≡ Accepted n
+      unfolding answer
+      accepted-back = rw (le-leb (length D) limit few, reads, le-leb (size (placed s t 0)) (lent back) (omega (arith, rows)), rows)
+
+      stands-back : Stands depth (tableAfter depth D back) n D (placed s t 0)
+      stands-back = read-stands depth D back n accepted-back (placed s t 0) (length D) reads
+
+      says-same : said D (placed s t 0) ≡ said s t
+      says-same = subst (λ (x : List ℕ). said x (placed s t 0) ≡ said s t) (sym is) (written.says-same depth s t (st .fine) worded small)
+
+      -- and gives the same rows, places aside, with the same payload bytes
+      pub rows-back : SameRows table s (tableAfter depth D back) D n
+      rows-back i l =
+          tree-same s D table (tableAfter depth D back) t 0 0 [] (drop (wordsPerRow * n) table) (drop (wordsPerRow * n) (tableAfter depth D back)) says-same (laid-out depth table n s t st)
+          (laid-out depth (tableAfter depth D back) n D (placed s t 0) stands-back) i (omega arith) (omega (arith, l, st .rows))
+
+      -- a table alike
+      pub alike-back : Alike depth table n s (tableAfter depth D back) n D
+      alike-back =
+          record {
+            right = yes;
+            right′ = stands-yes depth (tableAfter depth D back) n D (placed s t 0) stands-back;
+            same =
+                stands-saying depth table n s t st
+                ∙ ap says (sym says-same)
+                ∙ sym (stands-saying depth (tableAfter depth D back) n D (placed s t 0) stands-back);
+          }
+
+  -- every document whose reading is alike has at least as many bytes
+  pub nothing-shorter : (s′ : List ℕ) → Bytes s′ → (table′ : List ℕ) (m : ℕ) → answer depth s′ table′ ≡ Accepted m → Alike depth table n s (tableAfter depth s′ table′) m s′ → length D ≤ length s′
+  nothing-shorter s′ b table′ m e a =
+      let r = accepted depth s′ table′ m e in
+      let q : says (said s t) ≡ says (said s′ (r .tree)) =
+      sym (stands-saying depth table n s t st) ∙ a .same ∙ stands-saying depth (tableAfter depth s′ table′) m s′ (r .tree) (read-stands depth s′ table′ m e (r .tree) (r .next) (r .is)) in
+      let z : said s′ (r .tree) ≡ said s t = cc in
+      omega (arith, ap length is, shortest.nothing-shorter depth s t (st .fine) depth s′ b (r .short) (r .tree) (r .next) (r .is) z)

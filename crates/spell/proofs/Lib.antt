@@ -1,0 +1,6 @@
+-- Laws that belong to no one function.
+pub mod Forms
+pub mod Plans
+pub mod Owns
+pub mod Puts
+pub mod Shorts

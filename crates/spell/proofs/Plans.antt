@@ -1,0 +1,78 @@
+-- The plans that the code makes, by each way out. Assumes nothing.
+use mathlib.Core.Path.{_≡_, refl, sym, ap, _∙_, subst}
+use mathlib.Core.Bool.{Bool, true, false}
+use mathlib.Core.List.{List, [], _∷_}
+use Prim.Native.Nat.{ℕ, _+_, _-_, _*_, _%_, _^_, _≤_, _<_}
+use native.Mathlib.Omega.{arith}
+use lib.Dec.{ltb, lit≤}
+use Rattle.wide.specs.declared.wide.Wide.{Wide}
+use Rattle.wide.specs.Number.{bytesOf}
+use Rattle.wide.specs.Words.{whole, valueOf}
+use Rattle.wide.specs.Body.{sizeAt, rank}
+use Rattle.wide.specs.Family.{behind, hasNumber, form}
+use Rattle.wide.specs.Members.{run, headed, integer}
+use Rattle.wide.proofs.Wides.{Words, value-lt}
+use Rattle.wide.proofs.Ranks.{rank-lt, size-high}
+use Rattle.spell.specs.declared.plan.Plan.{Plan}
+use Rattle.spell.specs.Plan.{marked, planBytes, Plans}
+use Rattle.spell.proofs.Forms.{double-whole, alone-from, alone-few, form-alone, form-direct, form-body, first-low, integer-alone, integer-body}
+
+pub as-plan : (p : Plan) (xs ys : List ℕ) → Plans p xs → xs ≡ ys → Plans p ys
+as-plan p xs ys h e = subst (Plans p) e h
+
+abbrev plan : ℕ → ℕ → ℕ → ℕ → ℕ → Wide → Plan
+plan marks first second lead size value = record { marks = marks; first = first; second = second; lead = lead; size = size; value = value }
+
+pub lead-plan : (lead size : ℕ) (value : Wide) → size ≤ 16 → Plans (plan 0 0 0 lead size value) (lead ∷ bytesOf size (valueOf value))
+unfolding planBytes
+lead-plan lead size value h = record { few = lit≤ tt; short = h; spells = refl }
+
+-- ---- a headed number
+
+pub rank-small : (n : ℕ) (value : Wide) (j : ℕ) → n < 2 ^ 64 → valueOf value ≡ n → j ≡ rank false (valueOf value) → j < 8
+rank-small n value j l p q = omega (arith, q, rank-lt false (valueOf value) (omega (arith, p, double-whole)))
+
+module _ (low count from marks first second n : ℕ) (h : (low + count ≤ 256) × (from ≤ 1) × (marks ≤ 2)) (small : n < 2 ^ 64) (r : Bool) (e : r ≡ ltb (behind whole from n) count) where
+  pub from-low : r ≡ true → from ≤ n
+  from-low t = alone-from count from n (omega (arith, h .0)) (h .1) small r e t
+
+  pub lead-byte : r ≡ true → low + (n - from) < 256
+  lead-byte t = omega (arith, h .0, alone-few count from n (omega (arith, h .0)) (h .1) small r e t)
+
+  pub alone-plan : r ≡ true → (p : Plan) → Plans p ((low + (n - from)) ∷ []) → Plans p (form (headed (run low count from) (marked marks first second)) n)
+  alone-plan t p g = as-plan p _ _ g (form-alone low count from (marked marks first second) n (h .0) (h .1) small r e t)
+
+  pub direct-plan : r ≡ false → n < 248 → (value : Wide) → Plans (plan marks first second n 0 value) (form (headed (run low count from) (marked marks first second)) n)
+  unfolding planBytes
+  direct-plan t l value = record { few = h .2; short = lit≤ tt; spells = form-direct low count from (marked marks first second) n (h .0) (h .1) small r e t l }
+
+  pub body-plan : r ≡ false → 248 ≤ n → (value : Wide) (j k : ℕ) → valueOf value ≡ n → j ≡ rank false (valueOf value) → k ≡ sizeAt j
+      → Plans (plan marks first second (248 + j) k value) (form (headed (run low count from) (marked marks first second)) n)
+  unfolding planBytes
+  body-plan t l value j k p q s =
+      record {
+        few = h .2;
+        short = omega (arith, s, size-high j (rank-small n value j small p q));
+        spells = form-body low count from (marked marks first second) n (h .0) (h .1) small r e t l (valueOf value) j k p q s;
+      }
+
+-- ---- an integer
+
+module _ (signed : Bool) (w : Wide) (h : Words w) (r : Bool) (e : r ≡ hasNumber (integer signed .direct) (valueOf w)) where
+  pub small-plan : r ≡ true → (p : Plan) → Plans p (((w .w0 % 256 + 63) % 256) ∷ []) → Plans p (form (integer signed) (valueOf w))
+  small-plan t p g = as-plan p _ _ g (integer-alone signed (valueOf w) (value-lt w h) r e t _ (low (w .w0) _))
+    where
+      low : (a m : ℕ) → (a % 256 + 63) % 256 ≡ ((a + 2 ^ 32 * m) % 256 + 63) % 256
+      low a m = omega arith
+
+  pub integer-rank : (j : ℕ) → j ≡ rank signed (valueOf w) → j < 8
+  integer-rank j q = omega (arith, q, rank-lt signed (valueOf w) (value-lt w h))
+
+  pub long-plan : r ≡ false → (f j k : ℕ) → f ≡ integer signed .first → j ≡ rank signed (valueOf w) → k ≡ sizeAt j → (p : Plan) → Plans p ((f + j) ∷ bytesOf k (valueOf w)) → Plans p (form (integer signed) (valueOf w))
+  long-plan t f j k a b c p g = as-plan p _ _ g (integer-body signed (valueOf w) (value-lt w h) r e t f j k a b c)
+
+pub first-byte : (signed : Bool) (f j : ℕ) → f ≡ integer signed .first → j < 8 → f + j < 256
+first-byte signed f j e h = omega (arith, e, first-low signed)
+
+pub size-short : (j k : ℕ) → k ≡ sizeAt j → j < 8 → k ≤ 16
+size-short j k e h = omega (arith, e, size-high j h)

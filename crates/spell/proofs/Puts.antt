@@ -1,0 +1,143 @@
+-- A row's own bytes laid in an output: the marks, the rest of the plan, the payload. Assumes nothing.
+use mathlib.Core.Path.{_≡_, refl, sym, ap, ap₂, _∙_, subst}
+use mathlib.Core.Bool.{Bool, true, false, cond}
+use mathlib.Core.List.{List, [], _∷_, _++_, append-nil}
+use Prim.Native.Nat.{ℕ, suc, _+_, _-_, _≤_, _<_}
+use native.Mathlib.Nat.{min-eq-left}
+use native.Mathlib.Omega.{arith}
+use lib.ListN.{length, take, drop, getD, set, length-append, length-take, length-set}
+use lib.Seq.{sets, drop-cons, length-sets}
+use Rattle.lists.proofs.Sets.{sets-append}
+use Rattle.wide.specs.Number.{bytesOf}
+use Rattle.wide.specs.Words.{valueOf}
+use Rattle.wide.proofs.Numbers.{length-bytesOf}
+use Rattle.rows.specs.declared.row.Row.{Row}
+use Rattle.rules.specs.declared.kind.Kind.{Kind}
+use Rattle.encode.specs.Encode.{hasBytes, payload}
+use Rattle.encode.proofs.Back.{part-long}
+use Rattle.spell.specs.declared.plan.Plan.{Plan}
+use Rattle.spell.specs.Plan.{marked, planBytes, Plans}
+use Rattle.spell.specs.Own.{kindOf, ownHead, ownBytes, ownSize, Inside}
+
+-- ---- marks
+
+pub one-mark : (out : List ℕ) (at m f s : ℕ) → m ≡ 1 → set out at f ≡ sets out at (marked m f s)
+one-mark out at m f s e = ap (λ (x : ℕ). sets out at (marked x f s)) (sym e)
+
+pub two-marks : (out : List ℕ) (at m f s : ℕ) → m ≤ 2 → (m ≡ 0 → ⊥) → (m ≡ 1 → ⊥) → set (set out at f) (at + 1) s ≡ sets out at (marked m f s)
+two-marks out at m f s h z o =
+    let e : m ≡ 2 = omega arith in
+    let n : at + 1 ≡ suc at = omega arith in
+    ap (λ (x : ℕ). set (set out at f) x s) n ∙ ap (λ (x : ℕ). sets out at (marked x f s)) (sym e)
+
+marks-long : (m f s : ℕ) → m ≤ 2 → length (marked m f s) ≡ m
+marks-long m f s h = length-take m (f ∷ s ∷ []) ∙ min-eq-left h
+
+-- ---- a plan
+
+pub plan-long : (p : Plan) → p .marks ≤ 2 → length (planBytes p) ≡ p .marks + 1 + p .size
+unfolding planBytes
+plan-long p h =
+    omega (arith, length-append (marked (p .marks) (p .first) (p .second)) (p .lead ∷ bytesOf (p .size) (valueOf (p .value))), marks-long (p .marks) (p .first) (p .second) h, length-bytesOf (p .size) (valueOf (p .value)))
+
+pub plan-put : (out out₁ out₂ : List ℕ) (at next : ℕ) (p : Plan) → p .marks ≤ 2 → next ≡ at + p .marks → out₁ ≡ sets out at (marked (p .marks) (p .first) (p .second))
+    → out₂ ≡ sets (set out₁ next (p .lead)) (next + 1) (bytesOf (p .size) (valueOf (p .value))) → out₂ ≡ sets out at (planBytes p)
+unfolding planBytes
+plan-put out out₁ out₂ at next p h n e g =
+    let ms : List ℕ = marked (p .marks) (p .first) (p .second) in
+    let B : List ℕ = bytesOf (p .size) (valueOf (p .value)) in
+    let k : next ≡ at + length ms = omega (arith, n, marks-long (p .marks) (p .first) (p .second) h) in
+    let i : next + 1 ≡ suc next = omega arith in
+    g ∙ ap (λ (x : ℕ). sets (set out₁ next (p .lead)) x B) i ∙ ap₂ (λ (l : List ℕ) (x : ℕ). sets l x (p .lead ∷ B)) e k ∙ sym (sets-append out at ms (p .lead ∷ B))
+
+-- ---- a part of the data: what is left to lay completes it
+
+pub part-start : (out d : List ℕ) (at place size : ℕ) → sets out (at + 0) (take (size - 0) (drop (place + 0) d)) ≡ sets out at (take size (drop place d))
+part-start out d at place size =
+    let p : at + 0 ≡ at = omega arith in
+    let q : size - 0 ≡ size = omega arith in
+    let r : place + 0 ≡ place = omega arith in
+    ap₂ (λ (a k : ℕ). sets out a (take k (drop (place + 0) d))) p q ∙ ap (λ (x : ℕ). sets out at (take size (drop x d))) r
+
+pub part-turn : (out t d : List ℕ) (at place size i b : ℕ) → i < size → place + size ≤ length d → b ≡ getD d (place + i) 0
+    → sets out (at + i) (take (size - i) (drop (place + i) d)) ≡ t
+    → sets (set out (at + i) b) (at + (i + 1)) (take (size - (i + 1)) (drop (place + (i + 1)) d)) ≡ t
+part-turn out t d at place size i b l h e g =
+    let k : ℕ = size - (i + 1) in
+    let p : at + (i + 1) ≡ suc (at + i) = omega arith in
+    let q : place + (i + 1) ≡ suc (place + i) = omega arith in
+    let s : size - i ≡ suc k = omega arith in
+    let c : drop (place + i) d ≡ getD d (place + i) 0 ∷ drop (suc (place + i)) d = drop-cons d (place + i) 0 (omega arith) in
+    ap₂ (λ (x y : ℕ). sets (set out (at + i) b) x (take k (drop y d))) p q
+    ∙ ap (λ (x : ℕ). sets (set out (at + i) x) (suc (at + i)) (take k (drop (suc (place + i)) d))) e
+    ∙ sym (ap₂ (λ (x : ℕ) (y : List ℕ). sets out (at + i) (take x y)) s c)
+    ∙ g
+
+pub part-end : (out t d : List ℕ) (at place size i : ℕ) → size ≤ i → sets out (at + i) (take (size - i) (drop (place + i) d)) ≡ t → out ≡ t
+part-end out t d at place size i l g =
+    let z : 0 ≡ size - i = omega arith in
+    ap (λ (k : ℕ). sets out (at + i) (take k (drop (place + i) d))) z ∙ g
+
+-- ---- a row
+
+module _ (w : Row) (size : ℕ) (p : Plan) (h : Plans p (ownHead w size)) where
+  pub head-long : p .marks + 1 + p .size ≡ length (ownHead w size)
+  head-long = sym (plan-long p (h .few)) ∙ ap length (h .spells)
+
+  module _ (b : Bool) (e : b ≡ hasBytes (kindOf w)) where
+    pub size-with : b ≡ true → (n : ℕ) → n ≡ w .w1 → p .marks + 1 + p .size + n ≡ ownSize w size
+    unfolding ownSize
+    size-with t n q = ap₂ (λ (x y : ℕ). x + y) head-long (q ∙ ap (λ (x : Bool). cond x (w .w1) 0) (sym t ∙ e))
+
+    pub size-without : b ≡ false → p .marks + 1 + p .size ≡ ownSize w size
+    unfolding ownSize
+    size-without t = omega (arith, head-long, ap (λ (x : Bool). cond x (w .w1) 0) (sym t ∙ e))
+
+    module _ (s : List ℕ) where
+      own-with : b ≡ true → ownBytes s w size ≡ planBytes p ++ take (w .w1) (drop (w .w0) s)
+      unfolding ownBytes
+      own-with t = ap₂ (λ (x : List ℕ) (y : Bool). x ++ cond y (take (w .w1) (drop (w .w0) s)) []) (sym (h .spells)) (sym e ∙ t)
+
+      own-without : b ≡ false → ownBytes s w size ≡ planBytes p
+      unfolding ownBytes
+      own-without t = ap₂ (λ (x : List ℕ) (y : Bool). x ++ cond y (take (w .w1) (drop (w .w0) s)) []) (sym (h .spells)) (sym e ∙ t) ∙ append-nil (planBytes p)
+
+      payload-in : b ≡ true → Inside s w → w .w0 + w .w1 ≤ length s
+      unfolding Inside
+      payload-in t i = i (sym e ∙ t)
+
+      with-long : b ≡ true → Inside s w → length (ownBytes s w size) ≡ length (planBytes p) + w .w1
+      with-long t i =
+          let P : List ℕ = take (w .w1) (drop (w .w0) s) in
+          ap length (own-with t) ∙ length-append (planBytes p) P ∙ ap (λ (x : ℕ). length (planBytes p) + x) (part-long s (w .w0) (w .w1) (payload-in t i))
+
+      -- a row with a payload
+      module _ (t : b ≡ true) (i : Inside s w) (place n at next : ℕ) (q : place ≡ w .w0) (r : n ≡ w .w1) (k : next ≡ at + length (planBytes p)) (out out₁ : List ℕ) (g : out₁ ≡ sets out at (planBytes p))
+          (room : at + length (ownBytes s w size) ≤ length out) where
+        pub part-room : next + n ≤ length out₁
+        part-room = omega (arith, r, k, with-long t i, room, ap length g, length-sets out at (planBytes p))
+
+        pub part-inside : place + n ≤ length s
+        part-inside = omega (arith, q, r, payload-in t i)
+
+        pub row-next : next + n ≡ at + length (ownBytes s w size)
+        row-next = omega (arith, r, k, with-long t i)
+
+        pub row-laid : (out₂ : List ℕ) → out₂ ≡ sets out₁ next (take n (drop place s)) → out₂ ≡ sets out at (ownBytes s w size)
+        row-laid out₂ f =
+            f ∙ ap₂ (λ (x y : ℕ). sets out₁ next (take x (drop y s))) r q
+            ∙ ap₂ (λ (l : List ℕ) (x : ℕ). sets l x (take (w .w1) (drop (w .w0) s))) g k
+            ∙ sym (sets-append out at (planBytes p) (take (w .w1) (drop (w .w0) s)))
+            ∙ ap (sets out at) (sym (own-with t))
+
+      -- one without
+      module _ (t : b ≡ false) (at next : ℕ) (k : next ≡ at + length (planBytes p)) where
+        pub bare-next : next ≡ at + length (ownBytes s w size)
+        bare-next = k ∙ ap (λ (x : List ℕ). at + length x) (sym (own-without t))
+
+        pub bare-laid : (out out₁ : List ℕ) → out₁ ≡ sets out at (planBytes p) → out₁ ≡ sets out at (ownBytes s w size)
+        bare-laid out out₁ g = g ∙ ap (sets out at) (sym (own-without t))
+
+  pub plan-room : (s : List ℕ) (at : ℕ) (out : List ℕ) → at + length (ownBytes s w size) ≤ length out → at + length (planBytes p) ≤ length out
+  unfolding ownBytes
+  plan-room s at out r = omega (arith, r, length-append (ownHead w size) (payload s (w .w0) (w .w1) (kindOf w)), ap length (h .spells))

@@ -1,0 +1,102 @@
+-- How long a row's own bytes are: no head has more than 19. Assumes nothing.
+use mathlib.Core.Path.{_≡_, refl, sym, ap, ap₂, _∙_}
+use mathlib.Core.Bool.{Bool, true, false, cond}
+use mathlib.Core.List.{List, [], _∷_, _++_}
+use Prim.Native.Nat.{ℕ, _+_, _-_, _^_, _≤_, _<_}
+use native.Mathlib.Omega.{arith}
+use lib.ListN.{length, take, drop, length-append}
+use Rattle.wide.specs.Number.{bytesOf}
+use Rattle.wide.specs.Words.{whole, valueOf, words}
+use Rattle.wide.specs.Body.{sizeAt, rank}
+use Rattle.wide.specs.Family.{Family, hasNumber, byteOf, unmarkedForm, form}
+use Rattle.wide.specs.Members.{integerSigned, integerUnsigned, textLength, binaryLength, keyLength, referenceNumber, declarationCount, foreignLength}
+use Rattle.wide.proofs.Numbers.{length-bytesOf}
+use Rattle.wide.proofs.Wides.{Words, value-lt}
+use Rattle.wide.proofs.Ranks.{rank-lt, size-high}
+use Rattle.wide.proofs.Families.{cond-case}
+use Rattle.format.specs.declared.head.Holder.{Holder}
+use Rattle.format.specs.declared.head.Holder.the-variants.{Array, Record, Map}
+use Rattle.rows.specs.declared.row.Row.{Row}
+use Rattle.rules.specs.declared.kind.Kind.{Kind}
+use Rattle.rules.specs.declared.kind.Kind.the-variants.{Constant, Small, Signed, Unsigned, Float, Text, Holds, Binary, Char, Reference, Declaration, Whole, Damaged, Other}
+use Rattle.encode.specs.Encode.{floatMarker, holderCount, headFor, hasBytes}
+use Rattle.encode.proofs.Back.{part-long}
+use Rattle.spell.specs.Own.{kindOf, ownHead, ownBytes, ownSize, Inside}
+use Rattle.spell.proofs.Forms.{double-whole}
+
+-- ---- heads
+
+form-short : (F : Family) (n : ℕ) → n < whole → length (form F n) ≤ length (F .marker) + 17
+unfolding form unmarkedForm
+form-short F n h =
+    cond-case (λ (x : List ℕ). length x ≤ length (F .marker) + 17) (hasNumber (F .alone) n) (byteOf (F .alone) n ∷ []) (F .marker ++ unmarkedForm F n)
+    (λ _. omega arith)
+    (λ _. omega (arith, length-append (F .marker) (unmarkedForm F n), short))
+  where
+    short : length (unmarkedForm F n) ≤ 17
+    short =
+        cond-case (λ (x : List ℕ). length x ≤ 17) (hasNumber (F .direct) n) (byteOf (F .direct) n ∷ []) ((F .first + rank (F .signed) n) ∷ bytesOf (sizeAt (rank (F .signed) n)) n)
+        (λ _. omega arith)
+        (λ _. omega (arith, length-bytesOf (sizeAt (rank (F .signed) n)) n, size-high (rank (F .signed) n) (rank-lt (F .signed) n h)))
+
+holder-short : (h : Holder) (n : ℕ) → n < whole → length (form (holderCount h) n) ≤ 19
+holder-short Array n l = omega (arith, form-short (holderCount Array) n l)
+holder-short Record n l = omega (arith, form-short (holderCount Record) n l)
+holder-short Map n l = omega (arith, form-short (holderCount Map) n l)
+
+module _ (k w0 w1 w2 w3 size : ℕ) (h : Words (words w0 w1 w2 w3)) (l : size < whole) where
+  word : (n : ℕ) → n < 2 ^ 32 → n < whole
+  word n g = omega (arith, double-whole)
+
+  pub head-short : (K : Kind) → length (headFor k w0 w1 w2 w3 size K) ≤ 19
+  unfolding headFor
+  head-short Constant = omega arith
+  head-short Small = omega (arith, form-short integerSigned (valueOf (words w0 w1 w2 w3)) (value-lt (words w0 w1 w2 w3) h))
+  head-short Signed = omega (arith, form-short integerSigned (valueOf (words w0 w1 w2 w3)) (value-lt (words w0 w1 w2 w3) h))
+  head-short Unsigned = omega (arith, form-short integerUnsigned (valueOf (words w0 w1 w2 w3)) (value-lt (words w0 w1 w2 w3) h))
+  head-short Float = omega arith
+  head-short Text = omega (arith, form-short textLength w1 (word w1 (h .f1)))
+  head-short (Holds holder) = holder-short holder w0 (word w0 (h .f0))
+  head-short Binary = omega (arith, form-short binaryLength w1 (word w1 (h .f1)))
+  head-short Char = omega (arith, length-bytesOf 3 w0)
+  head-short Reference = omega (arith, form-short referenceNumber w0 (word w0 (h .f0)))
+  head-short Declaration = omega (arith, form-short declarationCount w0 (word w0 (h .f0)))
+  head-short Whole = omega (arith, form-short foreignLength size l)
+  head-short Damaged = omega (arith, form-short foreignLength w1 (word w1 (h .f1)))
+  head-short Other = omega (arith, form-short keyLength w1 (word w1 (h .f1)))
+
+-- ---- rows
+
+-- where the payload lies in the data, a row's own bytes are as many as its size says
+pub own-long : (s : List ℕ) (w : Row) (size : ℕ) → Inside s w → length (ownBytes s w size) ≡ ownSize w size
+unfolding ownBytes ownSize Inside
+own-long s w size i = length-append (ownHead w size) _ ∙ ap (λ (x : ℕ). length (ownHead w size) + x) (of (hasBytes (kindOf w)) i)
+  where
+    of : (b : Bool) → (b ≡ true → w .w0 + w .w1 ≤ length s) → length (cond b (take (w .w1) (drop (w .w0) s)) []) ≡ cond b (w .w1) 0
+    of true g = part-long s (w .w0) (w .w1) (g refl)
+    of false g = refl
+
+pub own-few : (s : List ℕ) (w : Row) (size : ℕ) → Inside s w → Words (words (w .w0) (w .w1) (w .w2) (w .w3)) → size < whole → ownSize w size ≤ 19 + length s
+unfolding ownSize ownHead Inside
+own-few s w size i h l =
+    cond-case (λ (x : ℕ). length (ownHead w size) + x ≤ 19 + length s) (hasBytes (kindOf w)) (w .w1) 0
+    (λ b. omega (arith, head-short (w .kind) (w .w0) (w .w1) (w .w2) (w .w3) size h l (kindOf w), i b))
+    (λ _. omega (arith, head-short (w .kind) (w .w0) (w .w1) (w .w2) (w .w3) size h l (kindOf w)))
+
+-- only a whole foreign body's head asks for the size of the children
+pub head-any : (k w0 w1 w2 w3 a b : ℕ) (K : Kind) → (K ≡ Whole → ⊥) → headFor k w0 w1 w2 w3 a K ≡ headFor k w0 w1 w2 w3 b K
+unfolding headFor
+head-any k w0 w1 w2 w3 a b Constant n = refl
+head-any k w0 w1 w2 w3 a b Small n = refl
+head-any k w0 w1 w2 w3 a b Signed n = refl
+head-any k w0 w1 w2 w3 a b Unsigned n = refl
+head-any k w0 w1 w2 w3 a b Float n = refl
+head-any k w0 w1 w2 w3 a b Text n = refl
+head-any k w0 w1 w2 w3 a b (Holds holder) n = refl
+head-any k w0 w1 w2 w3 a b Binary n = refl
+head-any k w0 w1 w2 w3 a b Char n = refl
+head-any k w0 w1 w2 w3 a b Reference n = refl
+head-any k w0 w1 w2 w3 a b Declaration n = refl
+head-any k w0 w1 w2 w3 a b Whole n = absurd (n refl)
+head-any k w0 w1 w2 w3 a b Damaged n = refl
+head-any k w0 w1 w2 w3 a b Other n = refl

@@ -1,0 +1,29 @@
+-- A row's own bytes: those of its value without those of its children. Assumes nothing: these are definitions.
+use mathlib.Core.Path.{_≡_}
+use mathlib.Core.Bool.{true, cond}
+use mathlib.Core.List.{List, _++_}
+use Prim.Native.Nat.{ℕ, _+_, _≤_}
+use lib.ListN.{length}
+use Rattle.rows.specs.declared.row.Row.{Row}
+use Rattle.rules.specs.declared.kind.Kind.{Kind}
+use Rattle.rules.specs.Shape.{named}
+use Rattle.encode.specs.Encode.{headFor, hasBytes, payload}
+
+abbrev pub kindOf : Row → Kind
+kindOf w = named (w .kind) (w .w2)
+
+-- what stands before the row's payload, or before its children, which take `size` bytes
+unfoldable pub ownHead : Row → ℕ → List ℕ
+ownHead w size = headFor (w .kind) (w .w0) (w .w1) (w .w2) (w .w3) size (kindOf w)
+
+-- with its payload in the data s
+unfoldable pub ownBytes : List ℕ → Row → ℕ → List ℕ
+ownBytes s w size = ownHead w size ++ payload s (w .w0) (w .w1) (kindOf w)
+
+-- how many they are, where the payload lies in the data
+unfoldable pub ownSize : Row → ℕ → ℕ
+ownSize w size = length (ownHead w size) + cond (hasBytes (kindOf w)) (w .w1) 0
+
+-- "every payload lies in the data"
+unfoldable pub Inside : List ℕ → Row → Type 0
+Inside s w = hasBytes (kindOf w) ≡ true → w .w0 + w .w1 ≤ length s

@@ -1,0 +1,20 @@
+-- The bytes of a plan. Assumes nothing: these are definitions.
+use mathlib.Core.Path.{_≡_}
+use mathlib.Core.List.{List, [], _∷_, _++_}
+use Prim.Native.Nat.{ℕ, _≤_}
+use lib.ListN.{take}
+use Rattle.wide.specs.Number.{bytesOf}
+use Rattle.wide.specs.Words.{valueOf}
+use Rattle.spell.specs.declared.plan.Plan.{Plan}
+
+abbrev pub marked : ℕ → ℕ → ℕ → List ℕ
+marked marks first second = take marks (first ∷ second ∷ [])
+
+unfoldable pub planBytes : Plan → List ℕ
+planBytes p = marked (p .marks) (p .first) (p .second) ++ (p .lead ∷ bytesOf (p .size) (valueOf (p .value)))
+
+-- it is a plan of these bytes; there are never more than two marks and 16 bytes of a number
+pub record Plans (p : Plan) (bytes : List ℕ) : Type 0 where
+  pub few : p .marks ≤ 2
+  pub short : p .size ≤ 16
+  pub spells : planBytes p ≡ bytes
