@@ -4,7 +4,7 @@ use mathlib.Core.Bool.{Bool, true, false, cond}
 use mathlib.Core.List.{List, [], _++_}
 use Prim.Native.Nat.{ℕ, suc, _+_, _*_, _^_, _≤_, _<_}
 use native.Mathlib.Omega.{arith}
-use lib.ListN.{length, getD, drop, take-append-drop}
+use lib.ListN.{length, getD, drop}
 use lib.Dec.{leb}
 use borrow.Author.Tests.{le-leb}
 use Rattle.wide.proofs.Numbers.{Bytes}
@@ -12,12 +12,11 @@ use Rattle.rows.specs.Table.{wordsPerRow, lent, limit}
 use Rattle.format.specs.declared.answer.Answer.the-variants.{Accepted}
 use Rattle.format.specs.Tree.{Tree, leaf, refer, hold, declare, Trees, none, more, size, sizes}
 use Rattle.format.specs.Value.{document, right}
-use Rattle.format.specs.Layout.{layout}
 use Rattle.format.specs.Answer.{answer, answerFor, tableAfter}
 use Rattle.format.proofs.Values.{Worded}
 use Rattle.rules.specs.Grow.{rulesHold}
 use Rattle.rules.specs.Fine.{Stands}
-use Rattle.rules.proofs.Exact.{yes-stands, stands-grows, stands-yes, accepted, read-stands}
+use Rattle.rules.proofs.Exact.{yes-stands, laid-out, stands-grows, stands-yes, accepted, read-stands}
 use Rattle.encode.specs.Encode.{encode, placed, placeds}
 use Rattle.encode.specs.Said.{said}
 use Rattle.encode.proofs.Alike as written
@@ -27,10 +26,6 @@ use Rattle.writer.proofs.Asks.{stands-document}
 use Rattle.demands.specs.Alike.{says, saidBy, saying, Alike, SameRows}
 use Rattle.demands.proofs.Words.{tree-worded}
 use Rattle.demands.proofs.Rows.{placed-size, tree-same}
-
--- the words of a table, its tree's first
-laid-out : (depth : ℕ) (table : List ℕ) (n : ℕ) (s : List ℕ) (t : Tree) → Stands depth table n s t → table ≡ layout t 0 [] ++ drop (wordsPerRow * n) table
-laid-out depth table n s t st = sym (take-append-drop (wordsPerRow * n) table) ∙ ap (λ (x : List ℕ). x ++ drop (wordsPerRow * n) table) (st .words)
 
 -- the tree that stands in a table is what the table says
 stands-saying : (depth : ℕ) (table : List ℕ) (n : ℕ) (s : List ℕ) (t : Tree) → Stands depth table n s t → saying depth table n s ≡ says (said s t)

@@ -5,6 +5,7 @@ use mathlib.Core.List.{List, [], _++_, append-assoc}
 use Prim.Native.Nat.{ℕ, suc, _+_, _-_, _*_, _^_, _≤_, _<_}
 use native.Mathlib.Omega.{arith}
 use lib.ListN.{getD, drop}
+use Rattle.wide.proofs.Ranks.{apart}
 use Rattle.rows.specs.declared.row.Row.{Row}
 use Rattle.rows.specs.Table.{wordsPerRow, wordsOf, rowAt, limit}
 use Rattle.rows.specs.Kinds.{leafRow, holderRow, declarationRow}
@@ -75,9 +76,6 @@ after-left : (b : Bool) (k m : ℕ) → (b ≡ true → k + suc m ≤ limit) →
 after-left true k m f e = omega (arith, f refl)
 after-left false k m f e = absurd (let z : _≡_ {A = ℕ} 0 1 = cc in omega arith)
 
-no-true : (b : Bool) (A : Type 0) → b ≡ false → b ≡ true → A
-no-true b A f t = absurd (let z : _≡_ {A = ℕ} 0 1 = cc in omega arith)
-
 -- ---- trees
 
 module _ (table s : List ℕ) (n : ℕ) (few : n ≤ limit) (fit : (i : ℕ) → getD table i 0 < 2 ^ 32) where
@@ -116,7 +114,7 @@ module _ (table s : List ℕ) (n : ℕ) (few : n ≤ limit) (fit : (i : ℕ) →
           few = omega (arith, count-few s k kind count (many ts) (f .1 .0) (f .1 .1) (f .1 .2), many-sizes ts);
           children =
               trees-worded ts (d - 1) (f .1 .0) (f .1 .1) 0 (row + 1) false registry rest (force-few s k kind count (many ts) (f .1 .0) (f .1 .1) (f .1 .2) l)
-              (λ e. no-true (isEntry (f .1 .0)) _ (plain-holder s k kind count (many ts) (f .1 .0) (f .1 .1) (f .1 .2)) e) (f .1 .3) v (omega arith);
+              (λ e. apart (isEntry (f .1 .0)) e (plain-holder s k kind count (many ts) (f .1 .0) (f .1 .1) (f .1 .2))) (f .1 .3) v (omega arith);
         }
     tree-worded (declare count es t) d k row registry rest l f h b =
         let w : Row = declarationRow (row + (1 + (sizes es + size t))) count in

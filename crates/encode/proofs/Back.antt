@@ -23,7 +23,7 @@ use Rattle.wide.proofs.Sound.{sound-integers}
 use Rattle.wide.proofs.Numbers.{length-bytesOf}
 use Rattle.text.specs.declared.answer.Text.{Text}
 use Rattle.text.specs.declared.answer.Text.the-variants.{WellFormed, IllFormed}
-use Rattle.text.specs.Check.{textOf}
+use Rattle.text.specs.Check.{textOf, wellFormed}
 use Rattle.rows.specs.Table.{limit}
 use Rattle.rows.specs.Kinds.{kindSmall, kindSigned, kindUnsigned, kindFloat, kindText, kindBinary}
 use Rattle.format.specs.declared.head.Content.{Content}
@@ -37,7 +37,7 @@ use Rattle.format.proofs.Values.{LeafWords}
 use Rattle.rules.specs.declared.kind.Kind.{Kind}
 use Rattle.rules.specs.declared.kind.Kind.the-variants.{Constant, Small, Signed, Unsigned, Float, Text as Spelt, Holds, Binary, Char, Reference, Declaration, Whole, Damaged, Other}
 use Rattle.rules.specs.declared.shape.Shape.the-variants as shape
-use Rattle.rules.specs.Shape.{blank, inside, oneOf, wellFormed, span, spelt, fits, shapeFor}
+use Rattle.rules.specs.Shape.{blank, inside, oneOf, span, spelt, fits, shapeFor}
 use Rattle.rules.proofs.Says.{Names, blank-first, blank-second, blank-third, blank-fourth}
 use Rattle.rules.proofs.Judged.{span-within}
 use Rattle.encode.specs.Encode.{placeIn, floatMarker, headFor, hasBytes, payload}

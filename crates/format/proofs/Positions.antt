@@ -17,7 +17,7 @@ use Rattle.wide.proofs.Numbers.{either}
 use Rattle.wide.proofs.Families.{cond-yes, cond-no}
 use Rattle.text.specs.declared.answer.Text.{Text}
 use Rattle.text.specs.declared.answer.Text.the-variants.{WellFormed, IllFormed}
-use Rattle.text.specs.Check.{textOf}
+use Rattle.text.specs.Check.{textOf, wellFormed}
 use Rattle.rows.specs.Table.{limit}
 use Rattle.rows.specs.Kinds.{kindFloat, kindText}
 use Rattle.format.specs.declared.refusal.Refusal.the-variants as why
@@ -57,20 +57,26 @@ module _ (s : List ℕ) (at kind place size stop : ℕ) where
   pub text-cut : stop - place < size → Refuse why.Short at ≡ textBody s at kind place size stop
   text-cut h = sym (cond-no (leb size (stop - place)) _ _ (lt-leb size (stop - place) h))
 
-  text-there : (t : Text) → size ≤ stop - place → t ≡ textOf (take (place + size - place) (drop place s))
-      → textBody s at kind place size stop ≡ spelled at t (Leaf (holds.Span kind place size) (place + size))
-  text-there t h e =
+  -- by whether the bytes are text
+  text-there : (b : Bool) → size ≤ stop - place → b ≡ wellFormed (textOf (take (place + size - place) (drop place s)))
+      → textBody s at kind place size stop ≡ cond b (Leaf (holds.Span kind place size) (place + size)) (Refuse why.Text at)
+  text-there b h e =
       let n : place + size - place ≡ size = omega arith in
       cond-yes (leb size (stop - place)) _ _ (le-leb size (stop - place) h)
-      ∙ ap (λ (x : Text). spelled at x (Leaf (holds.Span kind place size) (place + size))) (sym (e ∙ ap (λ (k : ℕ). textOf (take k (drop place s))) n))
+      ∙ told (textOf (take size (drop place s)))
+      ∙ ap (λ (x : Bool). cond x (Leaf (holds.Span kind place size) (place + size)) (Refuse why.Text at)) (sym (e ∙ ap (λ (k : ℕ). wellFormed (textOf (take k (drop place s)))) n))
+    where
+      told : (t : Text) → spelled at t (Leaf (holds.Span kind place size) (place + size)) ≡ cond (wellFormed t) (Leaf (holds.Span kind place size) (place + size)) (Refuse why.Text at)
+      told WellFormed = refl
+      told (IllFormed k) = refl
 
-  pub text-well : (t : Text) → size ≤ stop - place → t ≡ textOf (take (place + size - place) (drop place s)) → t ≡ WellFormed
+  pub text-well : (b : Bool) → size ≤ stop - place → b ≡ wellFormed (textOf (take (place + size - place) (drop place s))) → b ≡ true
       → Leaf (holds.Span kind place size) (place + size) ≡ textBody s at kind place size stop
-  text-well t h e w = sym (text-there t h e ∙ ap (λ (x : Text). spelled at x (Leaf (holds.Span kind place size) (place + size))) w)
+  text-well b h e w = sym (text-there b h e ∙ ap (λ (x : Bool). cond x (Leaf (holds.Span kind place size) (place + size)) (Refuse why.Text at)) w)
 
-  pub text-ill : (t : Text) (k : ℕ) → size ≤ stop - place → t ≡ textOf (take (place + size - place) (drop place s)) → t ≡ IllFormed k
+  pub text-ill : (b : Bool) → size ≤ stop - place → b ≡ wellFormed (textOf (take (place + size - place) (drop place s))) → b ≡ false
       → Refuse why.Text at ≡ textBody s at kind place size stop
-  text-ill t k h e w = sym (text-there t h e ∙ ap (λ (x : Text). spelled at x (Leaf (holds.Span kind place size) (place + size))) w)
+  text-ill b h e w = sym (text-there b h e ∙ ap (λ (x : Bool). cond x (Leaf (holds.Span kind place size) (place + size)) (Refuse why.Text at)) w)
 
 -- ---- chars
 

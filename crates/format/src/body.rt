@@ -7,7 +7,6 @@ use crate::count::index;
 use crate::head::Content;
 use crate::head::Head;
 use crate::refusal::Refusal;
-use text::Text;
 
 // A leaf whose body has `size` bytes from `place` on.
 pub fn bodied(at: usize, content: Content, place: usize, size: usize, stop: usize) -> Head
@@ -38,16 +37,15 @@ pub fn text_body(s: &[u8], at: usize, kind: u32, place: usize, size: usize, stop
         };
     }
     let end = place + size;
-    let t = text::check(&s[place..end]);
-    match t {
-        Text::WellFormed => Head::Leaf {
+    if text::is_well_formed(&s[place..end]) {
+        return Head::Leaf {
             content: Content::Span { kind, place, size },
             next: end,
-        },
-        Text::IllFormed { offset: _ } => Head::Refuse {
-            why: Refusal::Text,
-            place: at,
-        },
+        };
+    }
+    Head::Refuse {
+        why: Refusal::Text,
+        place: at,
     }
 }
 

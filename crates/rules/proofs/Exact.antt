@@ -97,11 +97,13 @@ module _ (depth : ℕ) (table : List ℕ) (n : ℕ) (s : List ℕ) where
   -- ---- a right tree
 
   module _ (t : Tree) (st : Stands depth table n s t) where
+    -- the words of the table, the tree's first
+    pub laid-out : table ≡ layout t 0 [] ++ drop (wordsPerRow * n) table
+    laid-out = sym (take-append-drop (wordsPerRow * n) table) ∙ ap (λ (x : List ℕ). x ++ drop (wordsPerRow * n) table) (st .words)
+
     pub stands-grows : grow (suc depth) table n s [] 0 ≡ grew t n
     stands-grows =
-        let w : table ≡ layout t 0 [] ++ drop (wordsPerRow * n) table =
-        sym (take-append-drop (wordsPerRow * n) table) ∙ ap (λ (x : List ℕ). x ++ drop (wordsPerRow * n) table) (st .words) in
-        regrow table n s t (suc depth) 0 [] (drop (wordsPerRow * n) table) (st .fine) w (omega (arith, st .rows))
+        regrow table n s t (suc depth) 0 [] (drop (wordsPerRow * n) table) (st .fine) laid-out (omega (arith, st .rows))
         ∙ ap (grew t) (zero-add (size t) ∙ st .rows)
 
     -- a table whose first n rows are those of a right tree gets a yes

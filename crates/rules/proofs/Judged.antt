@@ -13,7 +13,7 @@ use Rattle.wide.specs.Family.{hasNumber}
 use Rattle.wide.specs.Members.{integer}
 use Rattle.text.specs.declared.answer.Text.{Text}
 use Rattle.text.specs.declared.answer.Text.the-variants.{WellFormed, IllFormed}
-use Rattle.text.specs.Check.{textOf}
+use Rattle.text.specs.Check.{textOf, wellFormed}
 use Rattle.format.specs.declared.head.Holder.{Holder}
 use Rattle.format.specs.Head.{codepoint}
 use Rattle.lists.proofs.Tests.{and-yes, and-second}
@@ -21,7 +21,7 @@ use Rattle.rules.specs.declared.kind.Kind.{Kind}
 use Rattle.rules.specs.declared.kind.Kind.the-variants.{Holds, Char}
 use Rattle.rules.specs.declared.shape.Shape.{Shape}
 use Rattle.rules.specs.declared.shape.Shape.the-variants as shape
-use Rattle.rules.specs.Shape.{named, blank, inside, isSmall, wellFormed, span, spelt, fits, shapeFor, shapeOf}
+use Rattle.rules.specs.Shape.{named, blank, inside, isSmall, span, spelt, fits, shapeFor, shapeOf}
 
 -- ---- a part of the data
 
@@ -42,19 +42,11 @@ module _ (s : List ℕ) (w0 w1 w2 w3 : ℕ) where
     pub part-within : from + size ≤ length s
     part-within = let h = span-within (sym is ∙ holds) in omega arith
 
-    module _ (t : Text) (said : t ≡ textOf (take (from + size - from) (drop from s))) where
-      said-of : t ≡ textOf (take w1 (drop w0 s))
-      said-of =
-          let n : from + size - from ≡ w1 = omega arith in
-          said ∙ ap₂ (λ (x y : ℕ). textOf (take x (drop y s))) n f
-
-      pub spelt-well : t ≡ WellFormed → true ≡ spelt s w0 w1 w2 w3
-      unfolding spelt
-      spelt-well e = and-yes b (span s w0 w1 w2 w3) _ true is holds (sym (ap wellFormed (sym said-of ∙ e)))
-
-      pub spelt-ill : (k : ℕ) → t ≡ IllFormed k → false ≡ spelt s w0 w1 w2 w3
-      unfolding spelt
-      spelt-ill k e = and-yes b (span s w0 w1 w2 w3) _ false is holds (sym (ap wellFormed (sym said-of ∙ e)))
+    pub spelt-as : (r : Bool) → r ≡ wellFormed (textOf (take (from + size - from) (drop from s))) → r ≡ spelt s w0 w1 w2 w3
+    unfolding spelt
+    spelt-as r e =
+        let n : from + size - from ≡ w1 = omega arith in
+        and-yes b (span s w0 w1 w2 w3) _ r is holds (e ∙ ap₂ (λ (x y : ℕ). wellFormed (textOf (take x (drop y s)))) n f)
 
 -- ---- an integer
 

@@ -5,7 +5,7 @@ use native.Mathlib.Omega.{arith}
 use mathlib.Core.Bool.{Bool, true, false, _&&_}
 use mathlib.Core.List.{List}
 use lib.ListN.{length, take, drop}
-use Rattle.text.specs.Check.{textOf}
+use Rattle.text.specs.Check.{textOf, wellFormed}
 use Rattle.format.specs.Head.{floatSizes}
 use Rattle.format.specs.Value.{kindOf}
 use lib.Dec.{ltb, eqb}
@@ -16,7 +16,7 @@ use Rattle.rules.specs.declared.kind.Kind.{Kind}
 use Rattle.rules.specs.declared.kind.Kind.the-variants.{Constant, Small, Signed, Unsigned, Float, Text, Holds, Binary, Char, Reference, Declaration, Whole, Damaged, Other}
 use Rattle.rules.specs.declared.shape.Shape.{Shape}
 use Rattle.rules.specs.declared.shape.Shape.the-variants as shape
-use Rattle.rules.specs.Shape.{named, blank, oneOf, wellFormed, span, spelt, fits, shapeIf, shapeOf}
+use Rattle.rules.specs.Shape.{named, blank, oneOf, span, spelt, fits, shapeIf, shapeOf}
 use Rattle.lists.proofs.Tests.{and-first, and-second}
 use Rattle.rules.proofs.Judged.{span-within}
 

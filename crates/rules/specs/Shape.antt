@@ -9,7 +9,7 @@ use Rattle.wide.specs.Family.{hasNumber}
 use Rattle.wide.specs.Members.{integer}
 use Rattle.text.specs.declared.answer.Text.{Text}
 use Rattle.text.specs.declared.answer.Text.the-variants.{WellFormed, IllFormed}
-use Rattle.text.specs.Check.{textOf}
+use Rattle.text.specs.Check.{textOf, wellFormed}
 use Rattle.rows.specs.Kinds.{kindFalse, kindTrue, kindNone, kindSmall, kindSigned, kindUnsigned, kindFloat, kindText, kindArray, kindRecord, kindMap, kindBinary, kindChar, kindReference, kindDeclaration, kindForeign}
 use Rattle.format.specs.declared.head.Holder.the-variants.{Array, Record, Map}
 use Rattle.format.specs.Head.{codepoint, floatSizes}
@@ -55,11 +55,6 @@ isSmall signed w0 w1 w2 w3 = hasNumber (integer signed .direct) (valueOf (words 
 unfoldable pub oneOf : List ℕ → ℕ → Bool
 oneOf [] n = false
 oneOf (m ∷ ms) n = eqb n m || oneOf ms n
-
--- "Text follows RFC 3629"
-abbrev pub wellFormed : Text → Bool
-wellFormed WellFormed = true
-wellFormed (IllFormed offset) = false
 
 -- "7 float, 8 text, 12 binary, 17 key: w0 place in the data, w1 size"
 unfoldable pub span : List ℕ → ℕ → ℕ → ℕ → ℕ → Bool

@@ -4,7 +4,6 @@ ghost use Rattle.wide.specs.Words.{words};
 ghost use Rattle.format.specs.Head.{floatSizes};
 ghost use Rattle.rules.specs.Shape.{blank, inside, oneOf, span, spelt};
 use rows::Row;
-use text::Text;
 use wide::Wide;
 
 // All four are 0; a caller gives 0 for a word that its kind names.
@@ -67,11 +66,7 @@ pub fn spelt(s: &[u8], place: u32, size: u32, w2: u32, w3: u32) -> bool
 {
     if span(s, place, size, w2, w3) {
         let from = rows::number(place);
-        let t = text::check(&s[from..from + rows::number(size)]);
-        return match t {
-            Text::WellFormed => true,
-            Text::IllFormed { offset: _ } => false,
-        };
+        return text::is_well_formed(&s[from..from + rows::number(size)]);
     }
     false
 }

@@ -1,8 +1,8 @@
 -- A row's head, by what its kind names. Assumes nothing.
 use mathlib.Core.Path.{_≡_, refl, sym, ap, _∙_, subst}
-use mathlib.Core.Bool.{true, false}
+use mathlib.Core.Bool.{Bool, true, false}
 use mathlib.Core.List.{List, [], _∷_}
-use Prim.Native.Nat.{ℕ, _-_, _≤_}
+use Prim.Native.Nat.{ℕ, _-_, _/_, _%_, _≤_}
 use native.Mathlib.Omega.{arith}
 use mir.Val.{Fits}
 use mir.Syntax.{w8}
@@ -19,8 +19,9 @@ use Rattle.rules.specs.Shape.{named}
 use Rattle.rules.proofs.Says.{Names, names}
 use Rattle.encode.specs.Encode.{floatMarker, holderCount, headFor}
 use Rattle.spell.specs.declared.plan.Plan.{Plan}
-use Rattle.spell.specs.Plan.{Plans}
+use Rattle.spell.specs.Plan.{Plans, Formed}
 use Rattle.spell.specs.Own.{ownHead}
+use Rattle.spell.proofs.Plans.{formed-plan}
 
 pub count-head : (holder h : Holder) (n : ℕ) (p : Plan) → holder ≡ h → Plans p (form (holderCount h) n) → Plans p (form (holderCount holder) n)
 count-head holder h n p e = subst (λ (x : Holder). Plans p (form (holderCount x) n)) (sym e)
@@ -49,18 +50,23 @@ module _ (w : Row) (k : Kind) (e : k ≡ named (w .kind) (w .w2)) where
     unfolding headFor
     whole-head q h = as-head Whole _ q refl h
 
-    module _ (v : Wide) (r : v ≡ words (w .w0) (w .w1) (w .w2) (w .w3)) where
-      pub small-head : k ≡ Small → Plans p (form (integer true) (valueOf v)) → Plans p (ownHead w size)
-      unfolding headFor
-      small-head q h = as-head Small _ q (ap (λ (x : Wide). form (integer true) (valueOf x)) r) h
+    module _ (v : Wide) (r : v ≡ words (w .w0) (w .w1) (w .w2) (w .w3)) (v′ : Wide) (r′ : v′ ≡ words (w .w0) (w .w1) (w .w2) (w .w3)) (m : ℕ) where
+      plan-of : (signed : Bool) → Formed m signed (valueOf v) → Plans p ((m % 256) ∷ bytesOf (m / 256) (valueOf v′)) → Plans p (form (integer signed) (valueOf (words (w .w0) (w .w1) (w .w2) (w .w3))))
+      plan-of signed f h =
+          subst (λ (x : Wide). Plans p (form (integer signed) (valueOf x))) r
+          (formed-plan signed (valueOf v) m p f (subst (λ (x : Wide). Plans p ((m % 256) ∷ bytesOf (m / 256) (valueOf x))) (r′ ∙ sym r) h))
 
-      pub signed-head : k ≡ Signed → Plans p (form (integer true) (valueOf v)) → Plans p (ownHead w size)
+      pub small-head : k ≡ Small → Formed m true (valueOf v) → Plans p ((m % 256) ∷ bytesOf (m / 256) (valueOf v′)) → Plans p (ownHead w size)
       unfolding headFor
-      signed-head q h = as-head Signed _ q (ap (λ (x : Wide). form (integer true) (valueOf x)) r) h
+      small-head q f h = as-head Small _ q refl (plan-of true f h)
 
-      pub unsigned-head : k ≡ Unsigned → Plans p (form (integer false) (valueOf v)) → Plans p (ownHead w size)
+      pub signed-head : k ≡ Signed → Formed m true (valueOf v) → Plans p ((m % 256) ∷ bytesOf (m / 256) (valueOf v′)) → Plans p (ownHead w size)
       unfolding headFor
-      unsigned-head q h = as-head Unsigned _ q (ap (λ (x : Wide). form (integer false) (valueOf x)) r) h
+      signed-head q f h = as-head Signed _ q refl (plan-of true f h)
+
+      pub unsigned-head : k ≡ Unsigned → Formed m false (valueOf v) → Plans p ((m % 256) ∷ bytesOf (m / 256) (valueOf v′)) → Plans p (ownHead w size)
+      unfolding headFor
+      unsigned-head q f h = as-head Unsigned _ q refl (plan-of false f h)
 
     -- of a count or a number
     module _ (n : ℕ) (r : n ≡ w .w0) where

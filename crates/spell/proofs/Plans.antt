@@ -1,8 +1,8 @@
 -- The plans that the code makes, by each way out. Assumes nothing.
-use mathlib.Core.Path.{_≡_, refl, sym, ap, _∙_, subst}
+use mathlib.Core.Path.{_≡_, refl, sym, ap, ap₂, _∙_, subst}
 use mathlib.Core.Bool.{Bool, true, false}
 use mathlib.Core.List.{List, [], _∷_}
-use Prim.Native.Nat.{ℕ, _+_, _-_, _*_, _%_, _^_, _≤_, _<_}
+use Prim.Native.Nat.{ℕ, _+_, _-_, _*_, _/_, _%_, _^_, _≤_, _<_}
 use native.Mathlib.Omega.{arith}
 use lib.Dec.{ltb, lit≤}
 use Rattle.wide.specs.declared.wide.Wide.{Wide}
@@ -14,7 +14,7 @@ use Rattle.wide.specs.Members.{run, headed, integer}
 use Rattle.wide.proofs.Wides.{Words, value-lt}
 use Rattle.wide.proofs.Ranks.{rank-lt, size-high}
 use Rattle.spell.specs.declared.plan.Plan.{Plan}
-use Rattle.spell.specs.Plan.{marked, planBytes, Plans}
+use Rattle.spell.specs.Plan.{marked, planBytes, Plans, Formed}
 use Rattle.spell.proofs.Forms.{double-whole, alone-from, alone-few, form-alone, form-direct, form-body, first-low, integer-alone, integer-body}
 
 pub as-plan : (p : Plan) (xs ys : List ℕ) → Plans p xs → xs ≡ ys → Plans p ys
@@ -58,9 +58,21 @@ module _ (low count from marks first second n : ℕ) (h : (low + count ≤ 256) 
 
 -- ---- an integer
 
+pub first-byte : (signed : Bool) (f j : ℕ) → f ≡ integer signed .first → j < 8 → f + j < 256
+first-byte signed f j e h = omega (arith, e, first-low signed)
+
+pub size-short : (j k : ℕ) → k ≡ sizeAt j → j < 8 → k ≤ 16
+size-short j k e h = omega (arith, e, size-high j h)
+
 module _ (signed : Bool) (w : Wide) (h : Words w) (r : Bool) (e : r ≡ hasNumber (integer signed .direct) (valueOf w)) where
-  pub small-plan : r ≡ true → (p : Plan) → Plans p (((w .w0 % 256 + 63) % 256) ∷ []) → Plans p (form (integer signed) (valueOf w))
-  small-plan t p g = as-plan p _ _ g (integer-alone signed (valueOf w) (value-lt w h) r e t _ (low (w .w0) _))
+  pub small-form : r ≡ true → (b : ℕ) → b ≡ (w .w0 % 256 + 63) % 256 → Formed b signed (valueOf w)
+  small-form t b g =
+      let q : b / 256 ≡ 0 = omega arith in
+      let m : b % 256 ≡ b = omega arith in
+      record {
+        small = omega arith;
+        form-is = ap₂ (λ (x k : ℕ). x ∷ bytesOf k (valueOf w)) m q ∙ integer-alone signed (valueOf w) (value-lt w h) r e t b (g ∙ low (w .w0) _);
+      }
     where
       low : (a m : ℕ) → (a % 256 + 63) % 256 ≡ ((a + 2 ^ 32 * m) % 256 + 63) % 256
       low a m = omega arith
@@ -68,11 +80,13 @@ module _ (signed : Bool) (w : Wide) (h : Words w) (r : Bool) (e : r ≡ hasNumbe
   pub integer-rank : (j : ℕ) → j ≡ rank signed (valueOf w) → j < 8
   integer-rank j q = omega (arith, q, rank-lt signed (valueOf w) (value-lt w h))
 
-  pub long-plan : r ≡ false → (f j k : ℕ) → f ≡ integer signed .first → j ≡ rank signed (valueOf w) → k ≡ sizeAt j → (p : Plan) → Plans p ((f + j) ∷ bytesOf k (valueOf w)) → Plans p (form (integer signed) (valueOf w))
-  long-plan t f j k a b c p g = as-plan p _ _ g (integer-body signed (valueOf w) (value-lt w h) r e t f j k a b c)
+  pub long-form : r ≡ false → (f j k : ℕ) → f ≡ integer signed .first → j ≡ rank signed (valueOf w) → k ≡ sizeAt j → Formed (256 * k + (f + j)) signed (valueOf w)
+  long-form t f j k a b c =
+      let l : f + j < 256 = first-byte signed f j a (integer-rank j b) in
+      let z : k ≤ 16 = size-short j k c (integer-rank j b) in
+      let q : (256 * k + (f + j)) / 256 ≡ k = omega arith in
+      let m : (256 * k + (f + j)) % 256 ≡ f + j = omega arith in
+      record { small = omega arith; form-is = ap₂ (λ (x i : ℕ). x ∷ bytesOf i (valueOf w)) m q ∙ integer-body signed (valueOf w) (value-lt w h) r e t f j k a b c }
 
-pub first-byte : (signed : Bool) (f j : ℕ) → f ≡ integer signed .first → j < 8 → f + j < 256
-first-byte signed f j e h = omega (arith, e, first-low signed)
-
-pub size-short : (j k : ℕ) → k ≡ sizeAt j → j < 8 → k ≤ 16
-size-short j k e h = omega (arith, e, size-high j h)
+pub formed-plan : (signed : Bool) (n r : ℕ) (p : Plan) → Formed r signed n → Plans p ((r % 256) ∷ bytesOf (r / 256) n) → Plans p (form (integer signed) n)
+formed-plan signed n r p g h = as-plan p _ _ h (g .form-is)

@@ -1,10 +1,13 @@
 -- The bytes of a plan. Assumes nothing: these are definitions.
 use mathlib.Core.Path.{_≡_}
 use mathlib.Core.List.{List, [], _∷_, _++_}
-use Prim.Native.Nat.{ℕ, _≤_}
+use mathlib.Core.Bool.{Bool}
+use Prim.Native.Nat.{ℕ, _/_, _%_, _≤_}
 use lib.ListN.{take}
 use Rattle.wide.specs.Number.{bytesOf}
 use Rattle.wide.specs.Words.{valueOf}
+use Rattle.wide.specs.Family.{form}
+use Rattle.wide.specs.Members.{integer}
 use Rattle.spell.specs.declared.plan.Plan.{Plan}
 
 abbrev pub marked : ℕ → ℕ → ℕ → List ℕ
@@ -18,3 +21,8 @@ pub record Plans (p : Plan) (bytes : List ℕ) : Type 0 where
   pub few : p .marks ≤ 2
   pub short : p .size ≤ 16
   pub spells : planBytes p ≡ bytes
+
+-- the lead of an integer at a value position, and 256 times the size of what stands behind it
+pub record Formed (r : ℕ) (signed : Bool) (n : ℕ) : Type 0 where
+  pub small : r / 256 ≤ 16
+  pub form-is : (r % 256) ∷ bytesOf (r / 256) n ≡ form (integer signed) n

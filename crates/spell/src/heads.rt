@@ -1,14 +1,14 @@
 // The plans of coded numbers.
 ghost use mathlib.Core.Path.{_≡_};
 ghost use mathlib.Core.List.{[], _∷_};
-ghost use Prim.Native.Nat.{_+_, _≤_};
+ghost use Prim.Native.Nat.{_+_, _/_, _%_, _≤_};
 ghost use lib.Dec.{ltb};
 ghost use Rattle.wide.specs.Number.{bytesOf};
 ghost use Rattle.wide.specs.Words.{whole, valueOf};
 ghost use Rattle.wide.specs.Family.{behind, form};
 ghost use Rattle.wide.specs.Members.{run, headed, integer};
 ghost use Rattle.encode.specs.Encode.{floatMarker};
-ghost use Rattle.spell.specs.Plan.{marked, Plans};
+ghost use Rattle.spell.specs.Plan.{marked, Plans, Formed};
 use crate::plan::Plan;
 use wide::Wide;
 
@@ -102,19 +102,23 @@ fn integer_first(signed: bool) -> usize
     if signed { 16 } else { 24 }
 }
 
-// An integer at a value position.
-pub fn integer(w: Wide, signed: bool) -> Plan
-    ensures { λ r. ⌜ Plans r (form (integer signed) (valueOf w)) ⌝ }
+// The lead of an integer at a value position, and 256 times the size of what stands behind it: a number, so that no plan is made twice.
+pub fn integer_form(w: Wide, signed: bool) -> usize
+    ensures { λ r. ⌜ Formed r signed (valueOf w) ⌝ }
 {
     if wide::integer::is_small(w, signed) {
-        return alone(((w.w0 % 256 + 63) % 256) as u8);
+        return rows::number((w.w0 % 256 + 63) % 256);
     }
     let rank = wide::size::rank_of(w, signed);
-    lead_and(
-        (integer_first(signed) + rank) as u8,
-        wide::size::size_at(rank),
-        w,
-    )
+    256 * wide::size::size_at(rank) + (integer_first(signed) + rank)
+}
+
+// The plan of such a form.
+pub fn formed(form: usize, w: Wide) -> Plan
+    requires { ⌜ form / 256 ≤ 16 ⌝ }
+    ensures { λ r. ⌜ Plans r ((form % 256) ∷ bytesOf (form / 256) (valueOf w)) ⌝ }
+{
+    lead_and((form % 256) as u8, form / 256, w)
 }
 
 // A float's marker.

@@ -6,8 +6,9 @@ ghost use Rattle.spell.specs.Plan.{Plans};
 ghost use Rattle.spell.specs.Own.{ownHead};
 use crate::heads::alone;
 use crate::heads::float_marker;
+use crate::heads::formed;
 use crate::heads::headed;
-use crate::heads::integer;
+use crate::heads::integer_form;
 use crate::heads::lead_and;
 use crate::heads::wide_of;
 use crate::plan::Plan;
@@ -33,9 +34,9 @@ pub fn head_of(w: Row, size: usize) -> Plan
 {
     match rules::named(w.kind, w.w2) {
         Kind::Constant => alone((w.kind - 1) as u8),
-        Kind::Small => integer(words_of(w), true),
-        Kind::Signed => integer(words_of(w), true),
-        Kind::Unsigned => integer(words_of(w), false),
+        Kind::Small => formed(integer_form(words_of(w), true), words_of(w)),
+        Kind::Signed => formed(integer_form(words_of(w), true), words_of(w)),
+        Kind::Unsigned => formed(integer_form(words_of(w), false), words_of(w)),
         Kind::Float => alone(float_marker(w.w1)),
         Kind::Text => headed(128, 32, 1, 1, 8, 0, rows::number(w.w1)),
         Kind::Holds { holder } => count_head(holder, rows::number(w.w0)),

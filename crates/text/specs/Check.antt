@@ -41,3 +41,8 @@ textFrom at zero (b ∷ s) = begins (sequence (b ∷ s)) at (λ n. textFrom (suc
 -- "the offset of the first byte of the first ill-formed sequence": a sequence cut short is named by its first byte
 unfoldable pub textOf : List ℕ → Text
 textOf s = textFrom 0 0 s
+
+-- "Text follows RFC 3629": there is no such sequence
+abbrev pub wellFormed : Text → Bool
+wellFormed WellFormed = true
+wellFormed (IllFormed offset) = false

@@ -7,7 +7,7 @@ pub use answer::Text;
 use lead::Lead;
 use lines::lead_of;
 ghost use mathlib.Core.Path.{_≡_};
-ghost use Rattle.text.specs.Check.{textOf};
+ghost use Rattle.text.specs.Check.{textOf, wellFormed};
 
 // The outer loop goes over sequences. Within it one loop passes plain bytes in twos, for speed alone, and the other goes over
 // continuation bytes: low and high are the range of the next of them.
@@ -50,4 +50,14 @@ pub fn check(s: &[u8]) -> Text
         first = at;
     };
     Text::IllFormed { offset }
+}
+
+// Whether there is none such.
+pub fn is_well_formed(s: &[u8]) -> bool
+    ensures { λ r. ⌜ r ≡ wellFormed (textOf (now (s .entry))) ⌝ }
+{
+    match check(s) {
+        Text::WellFormed => true,
+        Text::IllFormed { offset: _ } => false,
+    }
 }

@@ -5,7 +5,7 @@ use native.Mathlib.Omega.{arith}
 use native.Mathlib.Nat.{add-zero}
 use mathlib.Core.Bool.{Bool, true, false, cond}
 use mathlib.Core.List.{List, [], _∷_, _++_, append-assoc}
-use lib.ListN.{length, getD, drop, take-append-drop}
+use lib.ListN.{length, getD, drop}
 use lib.Dec.{ltb, eqb}
 use borrow.Author.Tests.{lt-ltb, le-ltb, le-leb, ne-eqb}
 use Rattle.rows.specs.declared.row.Row.{Row}
@@ -16,6 +16,7 @@ use Rattle.format.specs.Tree.{Tree, leaf, refer, hold, declare, Trees, none, mo
 use Rattle.format.specs.Layout.{layout, layouts, entries}
 use Rattle.format.proofs.Layouts.{length-layout, layout-end, size-pos}
 use Rattle.rules.specs.Fine.{KeyFine, Either, Fine, Stands}
+use Rattle.rules.proofs.Exact.{laid-out}
 use Rattle.walker.specs.declared.step.Step.{Step}
 use Rattle.walker.specs.declared.step.Step.the-variants.{To, NoStep, BadTable}
 use Rattle.walker.specs.Walk.{standing, startOf, genuine, stepIn, stepOn, stepAlong}
@@ -258,7 +259,7 @@ module _ (depth : ℕ) (table : List ℕ) (n : ℕ) (s : List ℕ) (t : Tree) (s
       room = st .held;
       within = omega (arith, st .rows);
       rest = drop (wordsPerRow * n) table;
-      words = sym (take-append-drop (wordsPerRow * n) table) ∙ ap (λ (x : List ℕ). x ++ drop (wordsPerRow * n) table) (st .words);
+      words = laid-out depth table n s t st;
       right = record { key = false; levels = suc depth; fine = st .fine };
     },
     tt,

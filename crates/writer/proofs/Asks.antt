@@ -5,16 +5,15 @@ use mathlib.Core.List.{List, [], _++_}
 use Prim.Native.Nat.{ℕ, suc, _-_, _*_, _^_, _≤_, _<_}
 use native.Mathlib.Nat.{zero-add}
 use native.Mathlib.Omega.{arith}
-use lib.ListN.{length, getD, take, drop, take-append-drop}
+use lib.ListN.{length, getD, drop}
 use lib.Seq.{sets}
 use lib.Dec.{leb}
 use borrow.Author.Tests.{le-leb, lt-leb}
 use Rattle.rows.specs.Table.{wordsPerRow, rowAt, lent, limit}
 use Rattle.format.specs.Tree.{Tree}
-use Rattle.format.specs.Layout.{layout}
 use Rattle.rules.specs.Grow.{Growth, rulesHold}
 use Rattle.rules.specs.Fine.{Stands}
-use Rattle.rules.proofs.Exact.{yes-stands, stands-grows}
+use Rattle.rules.proofs.Exact.{yes-stands, laid-out, stands-grows}
 use Rattle.checker.specs.declared.checked.Checked.{Checked}
 use Rattle.checker.specs.declared.checked.Checked.the-variants as checks
 use Rattle.checker.specs.Checked.{checked}
@@ -51,10 +50,8 @@ module _ (depth : ℕ) (table : List ℕ) (n : ℕ) (s : List ℕ) where
 
   stands-spells : (t : Tree) → Stands depth table n s t → Spells table s 0 n (documentOf depth table n s)
   stands-spells t st =
-      let w : table ≡ layout t 0 [] ++ drop (wordsPerRow * n) table =
-      sym (take-append-drop (wordsPerRow * n) table) ∙ ap (λ (x : List ℕ). x ++ drop (wordsPerRow * n) table) (st .words) in
       subst (Spells table s 0 n) (sym (stands-document t st))
-      (subst (λ (x : ℕ). Spells table s 0 x (encode s t)) (zero-add _ ∙ st .rows) (tree-spells table s t (suc depth) 0 0 [] (drop (wordsPerRow * n) table) (st .fine) w))
+      (subst (λ (x : ℕ). Spells table s 0 x (encode s t)) (zero-add _ ∙ st .rows) (tree-spells table s t (suc depth) 0 0 [] (drop (wordsPerRow * n) table) (st .fine) (laid-out depth table n s t st)))
 
   module _ (yes : rulesHold depth table n s ≡ true) where
     stands : (t : Tree) × Stands depth table n s t

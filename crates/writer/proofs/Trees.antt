@@ -8,6 +8,7 @@ use native.Mathlib.Omega.{arith}
 use lib.ListN.{length, getD, take, drop}
 use Rattle.wide.specs.Family.{form}
 use Rattle.wide.specs.Members.{referenceNumber, declarationCount}
+use Rattle.wide.proofs.Ranks.{apart}
 use Rattle.rows.specs.declared.row.Row.{Row}
 use Rattle.rows.specs.Table.{wordsPerRow, wordsOf, rowAt}
 use Rattle.rows.specs.Kinds.{leafRow, holderRow, referenceRow, declarationRow}
@@ -39,9 +40,6 @@ hold-bare s k kind count n c k′ (holder h e _ _ _) =
 hold-bare s k kind count n c k′ (foreign e _ _ _) =
     ap hasBytes (whole-kind (named kind 0) (told-of s kind count 0 0 0 shape.Whole e (λ z. let y : _≡_ {A = ℕ} 0 1 = cc in omega arith) .is))
 
-no-bytes : (b : Bool) (A : Type 0) → b ≡ false → b ≡ true → A
-no-bytes b A f t = absurd (let z : _≡_ {A = ℕ} 0 1 = cc in omega arith)
-
 module _ (table s : List ℕ) where
   -- ---- a row over its children
 
@@ -63,7 +61,7 @@ module _ (table s : List ℕ) where
       → head ≡ ownHead w (length body) → Spells table s row (w .end) (head ++ body)
   unfolding Inside ownBytes
   over-spells row w body head e up b c q =
-      row-spells row w body (head ++ body) e up (λ t. no-bytes (hasBytes (kindOf w)) _ b t) c
+      row-spells row w body (head ++ body) e up (λ t. apart (hasBytes (kindOf w)) t b) c
       (ap (λ (l : List ℕ). l ++ body) (q ∙ sym (append-nil (ownHead w (length body))) ∙ ap (λ (x : Bool). ownHead w (length body) ++ cond x (take (w .w1) (drop (w .w0) s)) []) (sym b)))
 
   leaf-row : (row kind w0 w1 w2 w3 : ℕ) (rest : List ℕ) → drop (wordsPerRow * row) table ≡ wordsOf (leafRow kind row w0 w1 w2 w3) ++ rest
@@ -75,7 +73,7 @@ module _ (table s : List ℕ) where
 
   refer-inside : (row number entry : ℕ) → Inside s (referenceRow row number entry)
   unfolding Inside named
-  refer-inside row number entry t = no-bytes false _ refl t
+  refer-inside row number entry t = apart false t refl
 
   refer-own : (row number entry : ℕ) → form referenceNumber number ≡ ownBytes s (referenceRow row number entry) 0
   unfolding ownBytes ownHead named headFor

@@ -1,0 +1,16 @@
+-- `panxidell_c::lay::lay_three` meets its contract: its stores are the run of the words. Assumes nothing.
+use native.Mathlib.Omega.{arith}
+use lib.ListN.{length-set}
+use borrow.Author.Needs.{needs}
+use Rattle.panxidell_c.proofs.lay.lay_three.Statement.{statement}
+use Rattle.panxidell_c.proofs.lay.lay_three.Tie as tie
+
+pub lay-three-spec : {M : Type 1} → statement M
+lay-three-spec =
+    tie.close
+    (tie.spec
+    (λ c. search needs)
+    (λ c. simp length-set (omega arith))
+    (λ c. search needs)
+    (λ c. search needs)
+    (λ c. search needs))

@@ -1,0 +1,17 @@
+-- `panxidell_c::panxidell_read` meets its contract. Assumes nothing.
+use borrow.Author.Needs.{needs}
+use Rattle.panxidell_c.proofs.Packs.{answer-packed}
+use Rattle.panxidell_c.proofs.Bounds.{answer-number, answer-beside}
+use Rattle.panxidell_c.proofs.panxidell_read.Statement.{statement}
+use Rattle.panxidell_c.proofs.panxidell_read.Tie as tie
+
+pub panxidell-read-spec : {M : Type 1} → statement M
+panxidell-read-spec =
+    tie.close
+    (tie.spec
+    (λ c κs. search needs)
+    (λ c κs. search needs)
+    (λ c κs. search needs)
+    (λ c κs. (search answer-number, search answer-beside))
+    (λ c. search needs)
+    (λ c. (search answer-packed, search needs)))
