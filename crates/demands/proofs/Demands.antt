@@ -30,8 +30,8 @@ use Rattle.checker.specs.declared.checked.Checked.the-variants.{Right}
 use Rattle.checker.specs.Checked.{checked}
 use Rattle.checker.proofs.Answers as check
 use Rattle.walker.specs.Walk.{startOf}
-use Rattle.walker.specs.Resolve.{resolve}
-use Rattle.walker.specs.Payload.{payloadAt}
+use Rattle.resolve.specs.Resolve.{resolve}
+use Rattle.payload.specs.Payload.{payloadAt}
 use Rattle.walks.specs.Spots.{spot, nil, treeOf, treeWalk, treeEnd, tableWalk, tableEnd, AllInTable, ownPart, Way}
 use Rattle.walks.proofs.Walked as walked
 use Rattle.walks.proofs.Meets as meets

@@ -46,14 +46,14 @@ use Rattle.writer.proofs.Asks.{yes-few}
 use Rattle.walker.specs.declared.standing.Standing.{Standing}
 use Rattle.walker.specs.declared.step.Step.{Step}
 use Rattle.walker.specs.declared.step.Step.the-variants.{To, NoStep, BadTable}
-use Rattle.walker.specs.declared.moved.Move.{Move}
-use Rattle.walker.specs.declared.moved.Move.the-variants as go
-use Rattle.walker.specs.declared.resolved.Resolved.{Resolved}
-use Rattle.walker.specs.declared.resolved.Resolved.the-variants as ends
-use Rattle.walker.specs.declared.part.Part.{Part}
+use Rattle.resolve.specs.declared.moved.Move.{Move}
+use Rattle.resolve.specs.declared.moved.Move.the-variants as go
+use Rattle.resolve.specs.declared.resolved.Resolved.{Resolved}
+use Rattle.resolve.specs.declared.resolved.Resolved.the-variants as ends
+use Rattle.payload.specs.declared.part.Part.{Part}
 use Rattle.walker.specs.Walk.{genuine, inward, onward, alongside, stepIn, stepOn, stepAlong, stepNumber, stepStanding}
-use Rattle.walker.specs.Resolve.{moveFrom, moveAt, chased, chase, resolve, resolvedNumber, resolvedRow, resolvedBound, resolvedMoves}
-use Rattle.walker.specs.Payload.{hasPayload, part, partOf, payloadAt}
+use Rattle.resolve.specs.Resolve.{moveFrom, moveAt, chased, chase, resolve, resolvedNumber, resolvedRow, resolvedBound, resolvedMoves}
+use Rattle.payload.specs.Payload.{hasPayload, part, partOf, payloadAt}
 use Rattle.panxidell_c.specs.Packed.{packedStanding, within, Low}
 
 -- ---- the numbers of the paper

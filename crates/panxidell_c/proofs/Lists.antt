@@ -8,9 +8,9 @@ use borrow.Author.Tests.{le-leb, lt-leb}
 use Rattle.wide.specs.declared.wide.Wide.{Wide}
 use Rattle.wide.specs.declared.answer.Read.{Read}
 use Rattle.wide.specs.Answer.{readNumber, readValue, readUsed}
-use Rattle.walker.specs.declared.part.Part.{Part}
-use Rattle.walker.specs.declared.resolved.Resolved.{Resolved}
-use Rattle.walker.specs.Resolve.{resolvedNumber, resolvedRow, resolvedBound, resolvedMoves}
+use Rattle.payload.specs.declared.part.Part.{Part}
+use Rattle.resolve.specs.declared.resolved.Resolved.{Resolved}
+use Rattle.resolve.specs.Resolve.{resolvedNumber, resolvedRow, resolvedBound, resolvedMoves}
 use Rattle.panxidell_c.specs.Packed.{packed, lentFor, listAfter, resolvedWords, packedResolved, partWords, packedPart, readWords, packedRead}
 
 -- ---- any list

@@ -15,8 +15,8 @@ use Rattle.writer.specs.Written.{writtenNumber, writtenBeside}
 use Rattle.walker.specs.declared.standing.Standing.{Standing}
 use Rattle.walker.specs.declared.step.Step.{Step}
 use Rattle.walker.specs.declared.step.Step.the-variants.{BadTable}
-use Rattle.walker.specs.declared.resolved.Resolved.{Resolved}
-use Rattle.walker.specs.declared.resolved.Resolved.the-variants as resolved
+use Rattle.resolve.specs.declared.resolved.Resolved.{Resolved}
+use Rattle.resolve.specs.declared.resolved.Resolved.the-variants as resolved
 use Rattle.walker.specs.Walk.{stepNumber, stepStanding}
 use Rattle.panxidell_c.specs.Packed.{packed, packedAnswer, packedChecked, packedWritten, packedCoded, packedStanding, packedStep, within}
 

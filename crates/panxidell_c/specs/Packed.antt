@@ -17,10 +17,10 @@ use Rattle.writer.specs.declared.written.Written.{Written}
 use Rattle.writer.specs.Written.{writtenNumber, writtenBeside}
 use Rattle.walker.specs.declared.standing.Standing.{Standing}
 use Rattle.walker.specs.declared.step.Step.{Step}
-use Rattle.walker.specs.declared.part.Part.{Part}
-use Rattle.walker.specs.declared.resolved.Resolved.{Resolved}
+use Rattle.payload.specs.declared.part.Part.{Part}
+use Rattle.resolve.specs.declared.resolved.Resolved.{Resolved}
 use Rattle.walker.specs.Walk.{stepNumber, stepStanding}
-use Rattle.walker.specs.Resolve.{resolvedNumber, resolvedRow, resolvedBound, resolvedMoves}
+use Rattle.resolve.specs.Resolve.{resolvedNumber, resolvedRow, resolvedBound, resolvedMoves}
 
 -- "A `uint64_t` answer has the paper's number in its top 8 bits and the number beside it in the low 56."
 unfoldable pub packed : ℕ → ℕ → ℕ

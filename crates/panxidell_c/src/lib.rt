@@ -13,11 +13,11 @@ ghost use Rattle.format.specs.Answer.{depthLimit, answer, tableAfter};
 ghost use Rattle.checker.specs.Checked.{checked};
 ghost use Rattle.writer.specs.Written.{written, outputAfter};
 ghost use Rattle.walker.specs.Walk.{standing, stepIn, stepOn, stepAlong};
-ghost use Rattle.walker.specs.Resolve.{resolve};
-ghost use Rattle.walker.specs.Payload.{payloadAt};
+ghost use Rattle.resolve.specs.Resolve.{resolve};
+ghost use Rattle.payload.specs.Payload.{payloadAt};
 ghost use Rattle.panxidell_c.specs.Packed.{packedAnswer, packedChecked, packedWritten, packedCoded, packedStep, within, listAfter, resolvedWords, packedResolved, partWords, packedPart, readWords, packedRead};
+use resolve::Resolved;
 use rows::Row;
-use walker::Resolved;
 use walker::Standing;
 use walker::Step;
 use wide::Read;
@@ -83,7 +83,7 @@ fn resolve_within(table: &[u32], n: usize, row: usize) -> Resolved
     if Row::LIMIT < n {
         return Resolved::BadTable;
     }
-    walker::resolve(table, n, row)
+    resolve::resolve(table, n, row)
 }
 
 // Along references and from declarations to their values: row, bound and moves into the lent list.
@@ -109,7 +109,7 @@ pub extern "C" fn panxidell_payload(table: &[u32], row: usize, data: &[u8], out:
     if out.len() < 2 {
         return pack::pack(13, 2);
     }
-    let p = walker::payload_at(table, row, data);
+    let p = payload::payload_at(table, row, data);
     lay::lay_two(out, p.place as u32, p.size as u32);
     pack::pack(0, 0)
 }

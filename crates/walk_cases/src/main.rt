@@ -4,7 +4,7 @@
 ghost use Prim.Native.Nat.{_+_, _*_, _≤_, _<_};
 ghost use lib.ListN.{length};
 use libc::STDOUT_FILENO;
-use walker::Resolved;
+use resolve::Resolved;
 use walker::Standing;
 use walker::Step;
 
@@ -65,9 +65,9 @@ fn ask(table: &[u32], n: usize, data: &[u8], op: u8, row: usize, bound: usize) {
     } else if op == 2 {
         show_step(walker::step_along(table, n, at));
     } else if op == 3 {
-        show_resolved(walker::resolve(table, n, row));
+        show_resolved(resolve::resolve(table, n, row));
     } else if op == 4 {
-        show_payload(walker::payload(table, row, data));
+        show_payload(payload::payload(table, row, data));
     }
 }
 

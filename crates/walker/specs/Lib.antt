@@ -1,4 +1,1 @@
 pub mod Walk
-pub mod Resolve
-pub mod Payload
-pub mod Held

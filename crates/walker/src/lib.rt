@@ -1,32 +1,16 @@
-// A walker over a lent table, checked or not.
-mod held;
-mod moved;
-mod moves;
+// Steps over a lent table, checked or not.
 mod number;
-mod part;
-mod payloads;
-mod resolved;
 mod standing;
 mod step;
 mod steps;
 
-pub use held::Walker;
-pub use held::first_child;
-pub use held::walker_along;
-pub use held::walker_in;
-pub use held::walker_on;
-pub use held::walker_start;
-pub use held::walker_to;
-pub use part::Part;
-pub use payloads::payload;
-pub use payloads::payload_at;
-pub use resolved::Resolved;
 pub use standing::Standing;
 pub use step::Step;
+pub use steps::along_from;
+pub use steps::in_from;
+pub use steps::on_from;
 ghost use mathlib.Core.Path.{_≡_};
 ghost use Rattle.walker.specs.Walk.{startOf, stepIn, stepOn, stepAlong};
-ghost use Rattle.walker.specs.Resolve.{resolve};
-use moved::Move;
 
 // The standing on row 0 of n rows.
 pub fn start(n: usize) -> Standing
@@ -54,35 +38,4 @@ pub fn step_along(table: &[u32], n: usize, at: Standing) -> Step
     ensures { λ r. ⌜ r ≡ stepAlong (now (table .entry)) n at ⌝ }
 {
     steps::along_from(table, n, at.row, at.bound)
-}
-
-// Along references and from declarations to their values, to a row that is neither.
-pub fn resolve(table: &[u32], n: usize, row: usize) -> Resolved
-    ensures { λ r. ⌜ r ≡ resolve (now (table .entry)) n row ⌝ }
-{
-    if rows::lent(table) < n {
-        return Resolved::BadTable;
-    }
-    let mut here = row;
-    let mut moves = 0;
-    while moves < n {
-        match moves::move_at(table, n, here) {
-            Move::Stop => {
-                let bound = rows::number(rows::end_at(table, here));
-                return Resolved::At {
-                    row: here,
-                    bound,
-                    moves,
-                };
-            }
-            Move::To { row: next } => {
-                here = next;
-                moves += 1;
-            }
-            Move::Broken => {
-                return Resolved::BadTable;
-            }
-        }
-    }
-    Resolved::BadTable
 }

@@ -21,7 +21,7 @@ use Rattle.rules.proofs.Says.{HasInside, spelt-within, float-inside, text-insid
 use Rattle.walker.specs.declared.standing.Standing.{Standing}
 use Rattle.walker.specs.declared.step.Step.{Step}
 use Rattle.walker.specs.Walk.{standing, startOf}
-use Rattle.walker.specs.Payload.{hasPayload, part, partOf, payloadAt}
+use Rattle.payload.specs.Payload.{hasPayload, part, partOf, payloadAt}
 use Rattle.walks.specs.Spots.{Spot, spot, Spots, nil, cons, treeOf, rowOf, Way, treeStep, boundOf, told, goOn, treeWalk, treeEnd, goTo, tableWalk, tableEnd, InTable, AllInTable, ownPart}
 use Rattle.walks.proofs.Good.{rowsOf, Right, Good, hold-fine}
 use Rattle.walks.proofs.Walked.{Here, HereAll, step-right, step-here, bound-in, good-own, leaf-row, refer-row, hold-row, declare-row, root, root-here, steps-right}

@@ -14,11 +14,11 @@ use Rattle.rows.specs.Kinds.{kindReference, kindDeclaration, leafRow, holderRow
 use Rattle.format.specs.Tree.{Tree, leaf, refer, hold, declare, Trees, none, more, many, size, sizes}
 use Rattle.format.proofs.Layouts.{size-pos}
 use Rattle.rules.specs.Fine.{Fine, Stands}
-use Rattle.walker.specs.declared.moved.Move.{Move}
-use Rattle.walker.specs.declared.moved.Move.the-variants as go
-use Rattle.walker.specs.declared.resolved.Resolved.{Resolved}
-use Rattle.walker.specs.declared.resolved.Resolved.the-variants.{At}
-use Rattle.walker.specs.Resolve.{valueRow, moveFrom, moveAt, chased, chase, resolve}
+use Rattle.resolve.specs.declared.moved.Move.{Move}
+use Rattle.resolve.specs.declared.moved.Move.the-variants as go
+use Rattle.resolve.specs.declared.resolved.Resolved.{Resolved}
+use Rattle.resolve.specs.declared.resolved.Resolved.the-variants.{At}
+use Rattle.resolve.specs.Resolve.{valueRow, moveFrom, moveAt, chased, chase, resolve}
 use Rattle.walks.specs.Spots.{Spot, spot, Spots, nil, cons, rowOf, behind, held, declared, children}
 use Rattle.walks.proofs.Good.{rowsOf, Before, Good, Goods, declare-fine, children-good}
 use Rattle.walks.proofs.Neither.{Neither, leaf-neither, hold-neither}

@@ -7,9 +7,9 @@ use Rattle.format.specs.Tree.{Tree, leaf, refer, hold, declare, Trees, none, mo
 use Rattle.walker.specs.declared.standing.Standing.{Standing}
 use Rattle.walker.specs.declared.step.Step.{Step}
 use Rattle.walker.specs.declared.step.Step.the-variants.{To, NoStep, BadTable}
-use Rattle.walker.specs.declared.part.Part.{Part}
+use Rattle.payload.specs.declared.part.Part.{Part}
 use Rattle.walker.specs.Walk.{standing, stepIn, stepOn, stepAlong}
-use Rattle.walker.specs.Payload.{hasPayload, part}
+use Rattle.payload.specs.Payload.{hasPayload, part}
 
 mutual
   -- a tree, its row, and the entries in force there
