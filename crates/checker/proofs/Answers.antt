@@ -8,8 +8,8 @@ use lib.ListN.{length}
 use lib.Dec.{eqb}
 use borrow.Author.Tests.{le-leb, lt-leb, eq-eqb, ne-eqb}
 use Rattle.rows.specs.Table.{lent, limit}
-use Rattle.registry.specs.Registry.{chain}
-use Rattle.registry.proofs.Walks.{below-none}
+use Rattle.registry.specs.Registry.{chain, Based}
+use Rattle.registry.proofs.Walks.{based-plain, below-none}
 use Rattle.format.specs.declared.answer.Answer.the-variants.{Accepted}
 use Rattle.format.specs.Tree.{Tree}
 use Rattle.format.specs.Answer.{answer, tableAfter}
@@ -50,6 +50,9 @@ module _ (depth : ℕ) (table : List ℕ) (n : ℕ) (s : List ℕ) where
         pub long : limit < length s → BadTable ≡ checked depth table n s
         unfolding checked rulesHold
         long h = rw (le-leb 1 n some, le-leb n limit few, le-leb n (lent table) (omega arith), lt-leb (length s) limit h)
+
+        pub start-based : Based table 0 0
+        start-based = based-plain table 0 0 (omega arith)
 
         pub start-asks : Safe table n 0 0 0
         start-asks = record { room = omega arith; few = few; here = omega arith; below = below-none table 0 0 }

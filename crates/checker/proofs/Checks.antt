@@ -1,33 +1,33 @@
 -- A value position, its children and a declaration, a law for each way out of the code. Assumes nothing.
 use mathlib.Core.Path.{_≡_, refl, sym, ap, ap₂, _∙_, subst}
-use mathlib.Core.Bool.{true}
+use mathlib.Core.Bool.{Bool, true, false}
 use mathlib.Core.List.{List, []}
 use Prim.Native.Nat.{ℕ, zero, suc, _+_, _-_, _%_, _≤_, _<_}
 use native.Mathlib.Omega.{arith}
 use native.Mathlib.Nat.{sub-zero, add-zero, zero-add}
-use lib.ListN.{length}
+use lib.ListN.{length, getD}
 use borrow.Author.Tests.{lt-ltb, le-ltb, eq-eqb, ne-eqb}
 use Rattle.rows.specs.declared.row.Row.{Row}
 use Rattle.rows.specs.Table.{rowAt, lent, limit}
-use Rattle.registry.specs.Registry.{chain}
-use Rattle.registry.proofs.Walks.{length-chain, below-none, below-fewer, walk-start, chain-grown, walk-grown, below-grown}
+use Rattle.registry.specs.Registry.{walk, chain, firstIn, Based, baseOf}
+use Rattle.registry.proofs.Walks.{based-of, based-plain, chain-at, first-base, first-plain, length-chain, below-none, below-fewer, walk-start, chain-grown, walk-grown, below-grown}
 use Rattle.format.specs.declared.head.Holder.{Holder}
 use Rattle.format.specs.declared.head.Children.{Children}
 use Rattle.format.specs.declared.head.Children.the-variants.{Plain, Keyed, Growing}
-use Rattle.format.specs.Tree.{Tree, Trees}
-use Rattle.format.specs.Value.{childCount, childrenOf, inForce, inForeign, value, whole}
+use Rattle.format.specs.Tree.{Tree, Trees, many, size, sizes}
+use Rattle.format.specs.Value.{childCount, childrenOf, inForce, inForeign, value, whole, isKey}
 use Rattle.format.specs.Layout.{isEntry, grown, entries}
-use Rattle.format.proofs.Layouts.{no-entry, around-force}
+use Rattle.format.proofs.Layouts.{no-entry, around-force, entries-even}
 use Rattle.rules.specs.declared.shape.Shape.{Shape}
 use Rattle.rules.specs.declared.shape.Shape.the-variants.{Bad, Leaf, Refer, Hold, Declare, Whole, Damaged}
 use Rattle.rules.specs.Shape.{shapeOf}
-use Rattle.rules.specs.Grow.{Growth, grew, bad, Growths, grewAll, badAll, Grower, isKey, growKey, item, before, follow, grows, referred, held, closed, declared, damaged, byShape, grow}
+use Rattle.rules.specs.Grow.{Growth, grew, bad, Growths, grewAll, badAll, Grower, growKey, item, before, follow, grows, referred, held, closed, declared, damaged, byShape, grow}
 use Rattle.rules.specs.Fine.{KeyFine, Either, Fine}
 use Rattle.rules.proofs.Says.{Says, says}
 use Rattle.rules.proofs.Growth.{Grew, Sound, item-sound, grow-sound}
 use Rattle.checker.specs.declared.grown.Grown.{Grown}
 use Rattle.checker.specs.declared.grown.Grown.the-variants.{Up, Not}
-use Rattle.checker.specs.Safe.{Safe, SafeAll, grownOf, grownAll, endingAt}
+use Rattle.checker.specs.Safe.{Safe, SafeAll, BasedAll, grownOf, grownAll, endingAt}
 use Rattle.checker.proofs.Leaves.{ends-grown}
 
 -- ---- one value position
@@ -139,8 +139,30 @@ module _ (table : List ℕ) (n first k row : ℕ) (safe : Safe table n first k r
   pub whole-asks : row < n → SafeAll table n first k Plain 0 (row + 1)
   whole-asks l = record { safe = under l; linked = λ q. absurd (let z : _≡_ {A = ℕ} 0 1 = cc in omega arith) }
 
-pub entries-ask : (table : List ℕ) (n row : ℕ) → n ≤ lent table → n ≤ limit → row ≤ n → SafeAll table n row 0 Growing 0 row
-entries-ask table n row a b c = record { safe = record { room = a; few = b; here = c; below = below-none table row row }; linked = λ q. sym (walk-start table row) }
+entries-safe : (table : List ℕ) (n row : ℕ) → n ≤ lent table → n ≤ limit → row ≤ n → SafeAll table n row 0 Growing 0 row
+entries-safe table n row a b c = record { safe = record { room = a; few = b; here = c; below = below-none table row row }; linked = λ q. sym (walk-start table row) }
+
+pub entries-ask : (table : List ℕ) (n row : ℕ) → n ≤ lent table → n ≤ limit → row ≤ n → SafeAll table n (firstIn row) 0 Growing 0 row
+entries-ask table n row a b c = rw (first-plain row (omega arith)) (entries-safe table n row a b c)
+
+-- ---- the base of the entries in force
+
+pub entries-based : (table : List ℕ) (n row : ℕ) → n ≤ limit → row ≤ n → BasedAll table row 0 Growing
+entries-based table n row a b = record { based = based-plain table row 0 (omega arith); walked = λ e. omega arith }
+
+pub hold-based : (table : List ℕ) (base k : ℕ) (h : Holder) (c : Children) → c ≡ childrenOf h → Based table base k → BasedAll table base k c
+hold-based table base k h c e b = rw e record { based = b; walked = λ q. absurd (let z : _≡_ {A = ℕ} 0 1 = cc (no-entry h) in omega arith) }
+
+pub whole-based : (table : List ℕ) (base k : ℕ) → Based table base k → BasedAll table base k Plain
+whole-based table base k b = record { based = b; walked = λ q. absurd (let z : _≡_ {A = ℕ} 0 1 = cc in omega arith) }
+
+pub child-based : (table : List ℕ) (base k : ℕ) (c : Children) (i : ℕ) → BasedAll table base k c → Based table base (inForce c k i)
+child-based table base k Plain i b = b .based
+child-based table base k Keyed i b = b .based
+child-based table base k Growing i b = based-plain table base i (b .walked refl)
+
+pub value-based : (table : List ℕ) (base k m : ℕ) → m ≡ k → Based table base k → Based table base m
+value-based table base k m e b = rw e b
 
 -- ---- a child
 
@@ -148,31 +170,17 @@ module _ (d : ℕ) (table : List ℕ) (n : ℕ) (s : List ℕ) (row first k : �
   abbrev I : Grown
   I = grownOf (item (isKey c i) (grow d table n s) table n s (chain table first (inForce c k i)) row)
 
-  pub child-plain : c ≡ Plain → r ≡ grownOf (grow d table n s (chain table first k) row) → r ≡ I
-  unfolding item
-  child-plain e f = rw e f
+  module _ (b : Bool) (e : b ≡ isKey c i) where
+    pub child-key : b ≡ true → r ≡ grownOf (growKey table n s row) → r ≡ I
+    unfolding item
+    child-key t f = rw (← e, t) f
 
-  pub child-growing : c ≡ Growing → r ≡ grownOf (grow d table n s (chain table first i) row) → r ≡ I
-  unfolding item
-  child-growing e f = rw e f
+    pub child-value : b ≡ false → (m : ℕ) → m ≡ inForce c k i → r ≡ grownOf (grow d table n s (chain table first m) row) → r ≡ I
+    unfolding item
+    child-value t m g f = rw (← e, t, ← g) f
 
-  pub child-key : c ≡ Keyed → i % 2 ≡ 0 → r ≡ grownOf (growKey table n s row) → r ≡ I
-  unfolding item
-  child-key e z f = rw (e, eq-eqb (i % 2) 0 z) f
-
-  pub child-value : c ≡ Keyed → (i % 2 ≡ 0 → ⊥) → r ≡ grownOf (grow d table n s (chain table first k) row) → r ≡ I
-  unfolding item
-  child-value e z f = rw (e, ne-eqb (i % 2) 0 z) f
-
-module _ (table : List ℕ) (n first k : ℕ) (c : Children) (i row : ℕ) (safe : Safe table n first (inForce c k i) row) where
-  pub plain-asks : c ≡ Plain → Safe table n first k row
-  plain-asks e = subst (λ (x : Children). Safe table n first (inForce x k i) row) e safe
-
-  pub keyed-asks : c ≡ Keyed → Safe table n first k row
-  keyed-asks e = subst (λ (x : Children). Safe table n first (inForce x k i) row) e safe
-
-  pub growing-asks : c ≡ Growing → Safe table n first i row
-  growing-asks e = subst (λ (x : Children). Safe table n first (inForce x k i) row) e safe
+pub child-asks : (table : List ℕ) (n first k row m : ℕ) → m ≡ k → Safe table n first k row → Safe table n first m row
+child-asks table n first k row m e safe = rw e safe
 
 -- ---- children, one behind the other
 
@@ -276,6 +284,8 @@ module _ (d : ℕ) (table : List ℕ) (n : ℕ) (s : List ℕ) (first k : ℕ) (
 record Ran (table : List ℕ) (n first i count row : ℕ) (ts : Trees) (e : ℕ) : Type 0 where
   pub safe : Safe table n first (i + count) e
   pub registry : chain table first (i + count) ≡ entries ts row (chain table first i)
+  pub past : e ≡ row + sizes ts
+  pub number : many ts ≡ count
 
 abbrev RanAt : List ℕ → ℕ → ℕ → ℕ → ℕ → ℕ → Growths → Type 0
 RanAt table n first i count row (grewAll ts e) = Ran table n first i count row ts e
@@ -287,13 +297,15 @@ module _ (d : ℕ) (table : List ℕ) (n : ℕ) (s : List ℕ) (first : ℕ) whe
 
   before-ran : (i count row : ℕ) → SafeAll table n first 0 Growing i row → (t : Tree) (m : ℕ) → Grew (Fine s d (length (chain table first i))) table n (chain table first i) row t m
       → (q : Growths) → RanAt table n first (i + 1) count m q → RanAt table n first i (suc count) row (before t q)
-  unfolding entries
+  unfolding entries size many
   before-ran i count row a t m w badAll r = tt
   before-ran i count row a t m w (grewAll ts e) r =
       let j : i + 1 + count ≡ i + suc count = omega arith in
       record {
         safe = subst (λ (x : ℕ). Safe table n first x e) j (r .safe);
         registry = ap (chain table first) (sym j) ∙ r .registry ∙ ap₂ (λ (x : ℕ) (l : List ℕ). entries ts x l) (w .past) (chain-next table n first 0 i row Growing a);
+        past = omega (arith, r .past, w .past);
+        number = omega (arith, r .number);
       }
 
   follow-ran : (i count row : ℕ) → SafeAll table n first 0 Growing i row → (p : Growth) → Sound (Fine s d (length (chain table first i))) table n (chain table first i) row p
@@ -303,8 +315,8 @@ module _ (d : ℕ) (table : List ℕ) (n : ℕ) (s : List ℕ) (first : ℕ) whe
       before-ran i count row a t m w (rest m) (h m (safe-next (Fine s d (length (chain table first i))) table n first 0 i row (chain table first i) t m w Growing a))
 
   all-ran : (count i row : ℕ) → SafeAll table n first 0 Growing i row → RanAt table n first i count row (grows G Growing table n s (chain table first i) i count row)
-  unfolding grows entries item
-  all-ran zero i row a = record { safe = subst (λ (x : ℕ). Safe table n first x row) (sym (add-zero i)) (a .safe); registry = ap (chain table first) (add-zero i) }
+  unfolding grows entries item size many
+  all-ran zero i row a = record { safe = subst (λ (x : ℕ). Safe table n first x row) (sym (add-zero i)) (a .safe); registry = ap (chain table first) (add-zero i); past = omega arith; number = refl }
   all-ran (suc count) i row a =
       follow-ran i count row a (G (chain table first i) row) (grow-sound table n s (a .safe .room) d (chain table first i) row)
       (λ next. grows G Growing table n s (grown true (chain table first i) row) (i + 1) count next)
@@ -319,7 +331,7 @@ closed-grown count es (grew t a) = refl
 closed-grown count es bad = refl
 
 module _ (d : ℕ) (table : List ℕ) (n : ℕ) (s : List ℕ) (row count : ℕ) (room : n ≤ lent table) (few : n ≤ limit) (here : row ≤ n) (g : Grown)
-    (read : g ≡ grownAll (grows (grow d table n s) Growing table n s (chain table row (inForce Growing 0 0)) 0 count row)) where
+    (read : g ≡ grownAll (grows (grow d table n s) Growing table n s (chain table (firstIn row) (inForce Growing 0 0)) 0 count row)) where
   abbrev Q : Growths
   Q = grows (grow d table n s) Growing table n s [] 0 count row
 
@@ -329,10 +341,32 @@ module _ (d : ℕ) (table : List ℕ) (n : ℕ) (s : List ℕ) (row count : ℕ)
 
   ran : (e : ℕ) → g ≡ Up e → (ts : Trees) × (Q ≡ grewAll ts e) × Ran table n row 0 count row ts e
   unfolding chain
-  ran e h = ran-of table n row count row Q e (sym there ∙ h) (all-ran d table n s row count 0 row (entries-ask table n row room few here))
+  ran e h = ran-of table n row count row Q e (sym there ∙ h) (all-ran d table n s row count 0 row (entries-safe table n row room few here))
 
-  pub own-asks : (e : ℕ) → g ≡ Up e → Safe table n row count e
-  own-asks e h = subst (λ (x : ℕ). Safe table n row x e) (zero-add count) (ran e h .2 .safe)
+  registry-of : (e : ℕ) (h : g ≡ Up e) → chain table row count ≡ entries (ran e h .0) row []
+  unfolding chain
+  registry-of e h = sym (ap (chain table row) (zero-add count)) ∙ ran e h .2 .registry
+
+  -- as many rows as entries: each has one
+  even : (e : ℕ) → g ≡ Up e → e - row ≡ count → (i : ℕ) → i < count → walk table row i ≡ row + i
+  even e h q i l =
+      let z : length {A = ℕ} [] + i ≡ i = omega arith in
+      let t = ran e h in
+      sym (chain-at table row count i l) ∙ ap (λ (r : List ℕ). getD r i 0) (registry-of e h)
+      ∙ (rw z at (entries-even (t .0) row [] i (omega (arith, t .2 .past, t .2 .number)) (omega (arith, t .2 .number))))
+
+  pub own-under : (e : ℕ) → g ≡ Up e → row ≤ e
+  own-under e h = omega (arith, ran e h .2 .past)
+
+  module _ (e inner : ℕ) (h : g ≡ Up e) (b : inner ≡ baseOf row e count) where
+    first-inner : firstIn inner ≡ row
+    first-inner = ap firstIn b ∙ first-base row e count (omega arith)
+
+    pub own-asks : Safe table n (firstIn inner) count e
+    own-asks = rw first-inner (subst (λ (x : ℕ). Safe table n row x e) (zero-add count) (ran e h .2 .safe))
+
+    pub own-based : Based table inner count
+    own-based = rw b (based-of table row e count (omega arith) (even e h))
 
   pub declared-not : g ≡ Not → Not ≡ grownOf (declared (grow d table n s) count row Q)
   declared-not h = go Q (sym there ∙ h)
@@ -341,10 +375,10 @@ module _ (d : ℕ) (table : List ℕ) (n : ℕ) (s : List ℕ) (row count : ℕ)
       go (grewAll ts m) h = cc
       go badAll h = refl
 
-  pub declared-up : (e : ℕ) (r : Grown) → g ≡ Up e → r ≡ grownOf (grow d table n s (chain table row count) e) → r ≡ grownOf (declared (grow d table n s) count row Q)
-  unfolding chain
-  declared-up e r h j =
+  pub declared-up : (e inner : ℕ) (r : Grown) → g ≡ Up e → inner ≡ baseOf row e count → r ≡ grownOf (grow d table n s (chain table (firstIn inner) count) e)
+      → r ≡ grownOf (declared (grow d table n s) count row Q)
+  declared-up e inner r h b j =
       let t = ran e h in
-      let i : chain table row count ≡ entries (t .0) row [] = sym (ap (chain table row) (zero-add count)) ∙ t .2 .registry in
+      let i : chain table (firstIn inner) count ≡ entries (t .0) row [] = ap (λ (x : ℕ). chain table x count) (first-inner e inner h b) ∙ registry-of e h in
       j ∙ ap (λ (l : List ℕ). grownOf (grow d table n s l e)) i ∙ sym (closed-grown count (t .0) (grow d table n s (entries (t .0) row []) e))
       ∙ sym (ap (λ (q : Growths). grownOf (declared (grow d table n s) count row q)) (t .1))

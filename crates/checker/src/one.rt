@@ -3,7 +3,7 @@ ghost use mathlib.Core.Path.{_≡_};
 ghost use Prim.Native.Nat.{_+_, _≤_, _<_};
 ghost use lib.ListN.{length};
 ghost use Rattle.rows.specs.Table.{lent, limit};
-ghost use Rattle.registry.specs.Registry.{chain, Below};
+ghost use Rattle.registry.specs.Registry.{chain, Below, firstIn, Based};
 ghost use Rattle.format.specs.Value.{inForeign, value, whole, wrong};
 ghost use Rattle.rules.specs.Grow.{keyRow, growKey, referred, damaged};
 ghost use Rattle.checker.specs.Safe.{grownOf, endingAt};
@@ -53,13 +53,13 @@ pub fn check_key(table: &[u32], n: usize, s: &[u8], row: usize) -> Grown
 }
 
 // A reference: its entry is in force, and stands at the row that it says.
-pub fn check_reference(table: &[u32], row: usize, first: usize, around: usize, w: Row) -> Grown
-    requires { ⌜ (row ≤ lent (now table)) × (row < limit) × Below (now table) first around row ⌝ }
-    ensures { λ r. ⌜ r ≡ grownOf (referred (chain (now (table .entry)) first around) row w) ⌝ }
+pub fn check_reference(table: &[u32], row: usize, base: usize, around: usize, w: Row) -> Grown
+    requires { ⌜ (row ≤ lent (now table)) × (row < limit) × Below (now table) (firstIn base) around row × Based (now table) base around ⌝ }
+    ensures { λ r. ⌜ r ≡ grownOf (referred (chain (now (table .entry)) (firstIn base) around) row w) ⌝ }
 {
     let number = rows::number(w.w0);
     if number < around {
-        let entry = registry::entry_row(table, first, number, row);
+        let entry = registry::entry_in(table, base, number, row);
         if rows::number(w.w1) == entry {
             return Grown::Up { next: row + 1 };
         }

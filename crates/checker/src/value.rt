@@ -3,12 +3,12 @@ ghost use mathlib.Core.Path.{_≡_};
 ghost use mathlib.Core.List.{[]};
 ghost use Prim.Native.Nat.{_+_, _≤_, _<_};
 ghost use Rattle.rows.specs.Table.{lent, limit};
-ghost use Rattle.registry.specs.Registry.{chain};
+ghost use Rattle.registry.specs.Registry.{chain, firstIn, Based};
 ghost use Rattle.format.specs.declared.head.Children.the-variants.{Growing};
-ghost use Rattle.format.specs.Value.{inForce};
+ghost use Rattle.format.specs.Value.{inForce, isKey};
 ghost use Rattle.rules.specs.Shape.{shapeOf};
-ghost use Rattle.rules.specs.Grow.{isKey, item, grows, declared, byShape, grow};
-ghost use Rattle.checker.specs.Safe.{Safe, SafeAll, grownOf, grownAll};
+ghost use Rattle.rules.specs.Grow.{item, grows, declared, byShape, grow};
+ghost use Rattle.checker.specs.Safe.{Safe, SafeAll, BasedAll, grownOf, grownAll};
 use crate::grown::Grown;
 use crate::one::check_damaged;
 use crate::one::check_key;
@@ -18,18 +18,18 @@ use format::Children;
 use rows::Row;
 use rules::Shape;
 
-// One value position, from its own row on; `levels` are left, its own with them, and the first of the `around` entries in force stands at `first`.
+// One value position, from its own row on; `levels` are left, its own with them, and the `around` entries in force have that base.
 pub fn check_value(
     table: &[u32],
     n: usize,
     s: &[u8],
     row: usize,
     levels: usize,
-    first: usize,
+    base: usize,
     around: usize,
 ) -> Grown
-    requires { ⌜ Safe (now table) n first around row ⌝ }
-    ensures { λ r. ⌜ r ≡ grownOf (grow levels (now (table .entry)) n (now (s .entry)) (chain (now (table .entry)) first around) row) ⌝ }
+    requires { ⌜ Safe (now table) n (firstIn base) around row × Based (now table) base around ⌝ }
+    ensures { λ r. ⌜ r ≡ grownOf (grow levels (now (table .entry)) n (now (s .entry)) (chain (now (table .entry)) (firstIn base) around) row) ⌝ }
 {
     if levels == 0 {
         return Grown::Not;
@@ -39,7 +39,7 @@ pub fn check_value(
     }
     let w = rows::row_at(table, row);
     let shape = rules::shape_of(s, w);
-    let g = check_row(table, n, s, row, levels - 1, first, around, w, shape);
+    let g = check_row(table, n, s, row, levels - 1, base, around, w, shape);
     ends_at(w.end, g)
 }
 
@@ -50,23 +50,23 @@ fn check_row(
     s: &[u8],
     row: usize,
     levels: usize,
-    first: usize,
+    base: usize,
     around: usize,
     w: Row,
     shape: Shape,
 ) -> Grown
-    requires { ⌜ Safe (now table) n first around row × (row < n) ⌝ }
+    requires { ⌜ Safe (now table) n (firstIn base) around row × Based (now table) base around × (row < n) ⌝ }
     requires { ⌜ shape ≡ shapeOf (now s) (w .kind) (w .w0) (w .w1) (w .w2) (w .w3) ⌝ }
-    ensures { λ r. ⌜ r ≡ grownOf (byShape (grow levels (now (table .entry)) n (now (s .entry))) levels (now (table .entry)) n (now (s .entry)) (chain (now (table .entry)) first around) row w shape) ⌝ }
+    ensures { λ r. ⌜ r ≡ grownOf (byShape (grow levels (now (table .entry)) n (now (s .entry))) levels (now (table .entry)) n (now (s .entry)) (chain (now (table .entry)) (firstIn base) around) row w shape) ⌝ }
 {
     match shape {
         Shape::Bad => Grown::Not,
         Shape::Leaf => Grown::Up { next: row + 1 },
-        Shape::Refer => check_reference(table, row, first, around, w),
+        Shape::Refer => check_reference(table, row, base, around, w),
         Shape::Hold { holder } => {
             let count = holder.children(rows::number(w.w0));
             let c = holder.reading();
-            check_children(table, n, s, row + 1, levels, first, around, c, count)
+            check_children(table, n, s, row + 1, levels, base, around, c, count)
         }
         Shape::Declare => { check_declared(table, n, s, row + 1, levels, rows::number(w.w0)) }
         Shape::Whole => {
@@ -76,7 +76,7 @@ fn check_row(
                 s,
                 row + 1,
                 levels,
-                first,
+                base,
                 around,
                 Children::Plain,
                 1,
@@ -100,7 +100,10 @@ fn check_declared(
 {
     let es = check_children(table, n, s, row, levels, row, 0, Children::Growing, count);
     match es {
-        Grown::Up { next } => check_value(table, n, s, next, levels, row, count),
+        Grown::Up { next } => {
+            let inside = registry::base_of(row, next, count);
+            check_value(table, n, s, next, levels, inside, count)
+        }
         Grown::Not => Grown::Not,
     }
 }
@@ -112,24 +115,18 @@ fn check_child(
     s: &[u8],
     row: usize,
     levels: usize,
-    first: usize,
+    base: usize,
     around: usize,
     children: Children,
     i: usize,
 ) -> Grown
-    requires { ⌜ Safe (now table) n first (inForce children around i) row ⌝ }
-    ensures { λ r. ⌜ r ≡ grownOf (item (isKey children i) (grow levels (now (table .entry)) n (now (s .entry))) (now (table .entry)) n (now (s .entry)) (chain (now (table .entry)) first (inForce children around i)) row) ⌝ }
+    requires { ⌜ Safe (now table) n (firstIn base) (inForce children around i) row × Based (now table) base (inForce children around i) ⌝ }
+    ensures { λ r. ⌜ r ≡ grownOf (item (isKey children i) (grow levels (now (table .entry)) n (now (s .entry))) (now (table .entry)) n (now (s .entry)) (chain (now (table .entry)) (firstIn base) (inForce children around i)) row) ⌝ }
 {
-    match children {
-        Children::Plain => check_value(table, n, s, row, levels, first, around),
-        Children::Keyed => {
-            if i % 2 == 0 {
-                return check_key(table, n, s, row);
-            }
-            check_value(table, n, s, row, levels, first, around)
-        }
-        Children::Growing => check_value(table, n, s, row, levels, first, i),
+    if children.is_key(i) {
+        return check_key(table, n, s, row);
     }
+    check_value(table, n, s, row, levels, base, children.in_force(around, i))
 }
 
 // count children, back to back.
@@ -139,18 +136,18 @@ fn check_children(
     s: &[u8],
     row: usize,
     levels: usize,
-    first: usize,
+    base: usize,
     around: usize,
     children: Children,
     count: usize,
 ) -> Grown
-    requires { ⌜ SafeAll (now table) n first around children 0 row ⌝ }
-    ensures { λ r. ⌜ r ≡ grownAll (grows (grow levels (now (table .entry)) n (now (s .entry))) children (now (table .entry)) n (now (s .entry)) (chain (now (table .entry)) first (inForce children around 0)) 0 count row) ⌝ }
+    requires { ⌜ SafeAll (now table) n (firstIn base) around children 0 row × BasedAll (now table) base around children ⌝ }
+    ensures { λ r. ⌜ r ≡ grownAll (grows (grow levels (now (table .entry)) n (now (s .entry))) children (now (table .entry)) n (now (s .entry)) (chain (now (table .entry)) (firstIn base) (inForce children around 0)) 0 count row) ⌝ }
 {
     let mut i = 0;
     let mut here = row;
     while i < count {
-        let g = check_child(table, n, s, here, levels, first, around, children, i);
+        let g = check_child(table, n, s, here, levels, base, around, children, i);
         match g {
             Grown::Up { next } => {
                 here = next;

@@ -15,7 +15,7 @@ use Rattle.format.specs.declared.head.Holder.the-variants.{Array, Record, Map}
 use Rattle.format.specs.declared.head.Children.{Children}
 use Rattle.format.specs.declared.head.Children.the-variants.{Plain, Keyed, Growing}
 use Rattle.format.specs.Tree.{Tree, leaf, refer, hold, declare, Trees, none, more, many, size, sizes}
-use Rattle.format.specs.Value.{childCount}
+use Rattle.format.specs.Value.{childCount, isKey}
 use Rattle.format.specs.Layout.{isEntry, layout, layouts, grown, entries}
 use Rattle.format.proofs.Layouts.{no-entry, length-layout, length-layouts}
 use Rattle.format.proofs.Values.{LeafWords, Worded, Wordeds}
@@ -23,7 +23,6 @@ use Rattle.rules.specs.declared.kind.Kind.{Kind}
 use Rattle.rules.specs.declared.kind.Kind.the-variants.{Whole}
 use Rattle.rules.specs.declared.shape.Shape.the-variants as shape
 use Rattle.rules.specs.Shape.{named, fits}
-use Rattle.rules.specs.Grow.{isKey}
 use Rattle.rules.specs.Fine.{HoldFine, holder, foreign, KeyFine, Either, after, Fine, Fines}
 use Rattle.rules.proofs.Says.{blank-first}
 use Rattle.rules.proofs.Regrow.{behind}

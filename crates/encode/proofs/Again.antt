@@ -21,7 +21,7 @@ use Rattle.format.specs.declared.head.Children.{Children}
 use Rattle.format.specs.declared.head.Children.the-variants.{Plain, Keyed, Growing}
 use Rattle.format.specs.Head.{headAt, keyAt}
 use Rattle.format.specs.Tree.{Tree, leaf, refer, hold, declare, Trees, none, more, many}
-use Rattle.format.specs.Value.{Reading, right, wrong, Run, ran, Reader, leafOf, kindOf, childCount, childrenOf, keyed, inTurn, child, inForce, ahead, follow, run, closed, declaring, framed, inForeign, value, ended, whole}
+use Rattle.format.specs.Value.{Reading, right, wrong, Run, ran, Reader, leafOf, kindOf, childCount, childrenOf, keyed, inTurn, child, inForce, ahead, follow, run, closed, declaring, framed, inForeign, value, ended, whole, isKey}
 use Rattle.format.proofs.Steps as clauses
 use Rattle.format.proofs.Layouts.{around-force}
 use Rattle.format.proofs.Values.{LeafWords, Worded, Wordeds, ReadAt, value-read}
@@ -30,7 +30,6 @@ use Rattle.rules.specs.declared.kind.Kind.the-variants.{Constant, Small, Signed
 use Rattle.rules.specs.declared.shape.Shape.{Shape}
 use Rattle.rules.specs.declared.shape.Shape.the-variants as shape
 use Rattle.rules.specs.Shape.{named, span, spelt, fits, shapeFor, shapeIf, shapeOf}
-use Rattle.rules.specs.Grow.{isKey}
 use Rattle.rules.specs.Fine.{LeafFine, plain, damaged, HoldFine, holder, foreign, KeyFine, Either, Fine, Fines}
 use Rattle.rules.proofs.Judged.{span-within}
 use Rattle.rules.proofs.Says.{Names, names, blank-first}

@@ -16,13 +16,12 @@ use Rattle.wide.specs.Family.{form}
 use Rattle.wide.specs.Members.{declarationCount}
 use Rattle.format.specs.Tree.{Tree, leaf, refer, hold, declare, Trees}
 use Rattle.format.specs.Tree as trees
-use Rattle.format.specs.Value.{right, whole, document}
+use Rattle.format.specs.Value.{right, whole, document, isKey}
 use Rattle.format.proofs.Values.{Worded}
 use Rattle.rules.specs.declared.kind.Kind.{Kind}
 use Rattle.rules.specs.declared.kind.Kind.the-variants.{Constant, Small, Signed, Unsigned, Float, Text, Holds, Binary, Char, Reference, Declaration, Whole, Damaged, Other}
 use Rattle.rules.specs.declared.shape.Shape.the-variants as shape
 use Rattle.rules.specs.Shape.{named, oneOf, span, fits}
-use Rattle.rules.specs.Grow.{isKey}
 use Rattle.rules.specs.Fine.{LeafFine, plain, damaged, KeyFine, Either, Fine, Fines}
 use Rattle.rules.proofs.Judged.{span-within}
 use Rattle.rules.proofs.Says.{spelt-within}

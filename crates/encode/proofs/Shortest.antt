@@ -13,11 +13,10 @@ use Rattle.format.specs.declared.head.Children.{Children}
 use Rattle.format.specs.declared.head.Children.the-variants.{Growing}
 use Rattle.format.specs.Tree.{Tree, leaf, refer, hold, declare, Trees}
 use Rattle.format.specs.Tree as trees
-use Rattle.format.specs.Value.{right, document}
+use Rattle.format.specs.Value.{right, document, isKey}
 use Rattle.rules.specs.declared.kind.Kind.{Kind}
 use Rattle.rules.specs.declared.kind.Kind.the-variants.{Constant, Small, Signed, Unsigned, Float, Text, Holds, Binary, Char, Reference, Declaration, Whole, Damaged, Other}
 use Rattle.rules.specs.Shape.{named}
-use Rattle.rules.specs.Grow.{isKey}
 use Rattle.rules.specs.Fine.{KeyFine, Either, Fine, Fines}
 use Rattle.rules.proofs.Says.{spelt-within}
 use Rattle.rules.proofs.Read.{document-fine}

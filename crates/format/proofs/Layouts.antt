@@ -1,13 +1,13 @@
 -- Laws of a holder's children, and of the words of a tree's rows: how many they are, where they end, and that they may be laid in parts, a holder's own row last.
 -- Assumes nothing.
 use mathlib.Core.Path.{_≡_, refl, sym, ap, _∙_}
-use Prim.Native.Nat.{ℕ, _+_, _*_, _≤_, _<_}
+use Prim.Native.Nat.{ℕ, zero, suc, _+_, _*_, _≤_, _<_}
 use native.Mathlib.Nat.{add-zero}
 use native.Mathlib.Omega.{arith}
 use mathlib.Core.Bool.{Bool, true, false}
-use mathlib.Core.List.{List, [], _++_, append-nil}
-use lib.ListN.{length, length-append}
-use lib.Seq.{sets}
+use mathlib.Core.List.{List, [], _∷_, _++_, append-nil}
+use lib.ListN.{length, getD, length-append, List·getD-append}
+use lib.Seq.{sets, getD-at}
 use Rattle.lists.proofs.Sets.{sets-append}
 use Rattle.rows.specs.declared.row.Row.{Row}
 use Rattle.rows.specs.Table.{wordsPerRow, wordsOf, rowAt, lent}
@@ -15,7 +15,7 @@ use Rattle.rows.specs.Kinds.{kindForeign, holderRow, declarationRow, foreignRow
 use Rattle.rows.proofs.Rows.{row-sets-in, row-last}
 use Rattle.format.specs.declared.head.Holder.{Holder}
 use Rattle.format.specs.declared.head.Holder.the-variants.{Array, Record, Map}
-use Rattle.format.specs.Tree.{Tree, leaf, refer, hold, declare, Trees, none, more, size, sizes}
+use Rattle.format.specs.Tree.{Tree, leaf, refer, hold, declare, Trees, none, more, many, size, sizes}
 use Rattle.format.specs.Value.{childrenOf, inForce}
 use Rattle.format.specs.Layout.{isEntry, layout, layouts, entries, grown}
 
@@ -126,3 +126,32 @@ lay-declare table count es t row registry =
     let T : List ℕ = layout t (row + 1 + sizes es) (entries es (row + 1) []) in
     rw (lay-two table (row + 1) (sizes es) E T (length-layouts es true (row + 1) []))
     (row-last table row (declarationRow (row + (1 + (sizes es + size t))) count) (E ++ T))
+
+-- ---- the rows of entries
+
+-- a tree has a row or more
+pub sizes-many : (ts : Trees) → many ts ≤ sizes ts
+unfolding many size
+sizes-many none = omega arith
+sizes-many (more t ts) = omega (arith, size-pos t, sizes-many ts)
+
+-- those that were in force stay where they are
+entries-before : (es : Trees) (row : ℕ) (registry : List ℕ) (j : ℕ) → j < length registry → getD (entries es row registry) j 0 ≡ getD registry j 0
+unfolding entries
+entries-before none row registry j h = refl
+entries-before (more t es) row registry j h =
+    entries-before es (row + size t) (registry ++ (row ∷ [])) j (omega (arith, length-append registry (row ∷ []))) ∙ List·getD-append registry (row ∷ []) 0 j h
+
+-- where each has one row, they stand one behind the other
+pub entries-even : (es : Trees) (row : ℕ) (registry : List ℕ) (i : ℕ) → sizes es ≡ many es → i < many es → getD (entries es row registry) (length registry + i) 0 ≡ row + i
+unfolding entries many size
+entries-even none row registry i e h = absurd (let z : ⊥ = omega arith in z)
+entries-even (more t es) row registry zero e h =
+    let n : length registry + 0 ≡ length registry = omega arith in
+    let r : row + 0 ≡ row = omega arith in
+    rw (n, r) (entries-before es (row + size t) (registry ++ (row ∷ [])) (length registry) (omega (arith, length-append registry (row ∷ []))) ∙ getD-at registry row [] 0 (length registry) refl)
+entries-even (more t es) row registry (suc i) e h =
+    let one : size t ≡ 1 = omega (arith, size-pos t, sizes-many es) in
+    let n : length registry + suc i ≡ length (registry ++ (row ∷ [])) + i = omega (arith, length-append registry (row ∷ [])) in
+    let r : row + suc i ≡ row + size t + i = omega arith in
+    rw (n, r) (entries-even es (row + size t) (registry ++ (row ∷ [])) i (omega (arith, sizes-many es)) (omega arith))

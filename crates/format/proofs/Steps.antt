@@ -1,6 +1,6 @@
 -- What a value position, its children and a document read as, a law for each clause of the definitions. Assumes nothing.
 use mathlib.Core.Path.{_≡_, refl, sym, ap, _∙_}
-use mathlib.Core.Bool.{Bool}
+use mathlib.Core.Bool.{Bool, true, false}
 use mathlib.Core.List.{List}
 use Prim.Native.Nat.{ℕ, suc, _+_, _-_, _%_, _≤_, _<_}
 use native.Mathlib.Omega.{arith}
@@ -19,7 +19,7 @@ use Rattle.format.specs.declared.head.Children.the-variants.{Plain, Keye
 use Rattle.format.specs.Refusal.{numberOf as refusalNumber}
 use Rattle.format.specs.Tree.{Tree, leaf, refer, hold, declare, Trees, none, more}
 use Rattle.format.specs.Head.{headAt, keyAt}
-use Rattle.format.specs.Value.{Reading, right, wrong, Run, ran, broke, Reader, leafOf, kindOf, childCount, childrenOf, keyed, inTurn, child, ahead, follow, run, held, referred, closed, declaring, framedRight, framed, inForeign, step, value, ended, whole, document}
+use Rattle.format.specs.Value.{Reading, right, wrong, Run, ran, broke, Reader, leafOf, kindOf, childCount, childrenOf, keyed, inTurn, child, isKey, inForce, ahead, follow, run, held, referred, closed, declaring, framedRight, framed, inForeign, step, value, ended, whole, document}
 
 -- ---- a value position
 
@@ -114,22 +114,19 @@ module _ (s : List ℕ) (at stop : ℕ) (h : Head) (head : h ≡ keyAt s at stop
   pub keyed-refuse : (e : Refusal) (place : ℕ) → h ≡ Refuse e place → keyed s (keyAt s at stop) ≡ wrong e place
   keyed-refuse e place q = ap (keyed s) (sym head ∙ q)
 
+-- a key, or a value under the entries in force for it
 module _ (R : Reader) (s : List ℕ) (k i at stop : ℕ) where
-  pub child-plain : child Plain R s k i at stop ≡ R k at stop
+  pub child-key : (c : Children) → isKey c i ≡ true → child c R s k i at stop ≡ keyed s (keyAt s at stop)
   unfolding child
-  child-plain = refl
+  child-key Plain e = cc
+  child-key Keyed e = ap (λ (b : Bool). inTurn b R s k at stop) e
+  child-key Growing e = cc
 
-  pub child-entry : child Growing R s k i at stop ≡ R i at stop
+  pub child-value : (c : Children) → isKey c i ≡ false → child c R s k i at stop ≡ R (inForce c k i) at stop
   unfolding child
-  child-entry = refl
-
-  pub child-key : i % 2 ≡ 0 → child Keyed R s k i at stop ≡ keyed s (keyAt s at stop)
-  unfolding child
-  child-key e = ap (λ (b : Bool). inTurn b R s k at stop) (eq-eqb (i % 2) 0 e)
-
-  pub child-value : (i % 2 ≡ 0 → ⊥) → child Keyed R s k i at stop ≡ R k at stop
-  unfolding child
-  child-value f = ap (λ (b : Bool). inTurn b R s k at stop) (ne-eqb (i % 2) 0 f)
+  child-value Plain e = refl
+  child-value Keyed e = ap (λ (b : Bool). inTurn b R s k at stop) e
+  child-value Growing e = refl
 
 module _ (R : Reader) (c : Children) (s : List ℕ) (k i : ℕ) where
   pub run-none : (n at stop : ℕ) → n ≡ 0 → run R c s k i n at stop ≡ ran none at

@@ -97,6 +97,12 @@ child Plain R s around i at stop = R around at stop
 child Keyed R s around i at stop = inTurn (eqb (i % 2) 0) R s around at stop
 child Growing R s around i at stop = R i at stop
 
+-- "a record: key and value in turn": whether child number i is a key
+abbrev pub isKey : Children → ℕ → Bool
+isKey Plain i = false
+isKey Keyed i = eqb (i % 2) 0
+isKey Growing i = false
+
 -- how many entries are in force for child number i of what has `around` around it
 abbrev pub inForce : Children → ℕ → ℕ → ℕ
 inForce Plain around i = around

@@ -1,7 +1,7 @@
 // What a holder says of its children, and a foreign document of its body.
 ghost use mathlib.Core.Path.{_≡_};
 ghost use Prim.Native.Nat.{_<_};
-ghost use Rattle.format.specs.Value.{kindOf, childCount, childrenOf, inForeign};
+ghost use Rattle.format.specs.Value.{kindOf, childCount, childrenOf, isKey, inForce, inForeign};
 use crate::head::Children;
 use crate::head::Holder;
 use rows::Row;
@@ -38,6 +38,30 @@ impl Holder {
             Holder::Array => Children::Plain,
             Holder::Record => Children::Keyed,
             Holder::Map => Children::Plain,
+        }
+    }
+}
+
+impl Children {
+    // Whether child number i is a key.
+    pub fn is_key(self, i: usize) -> bool
+        ensures { λ r. ⌜ r ≡ isKey self i ⌝ }
+    {
+        match self {
+            Children::Plain => false,
+            Children::Keyed => i % 2 == 0,
+            Children::Growing => false,
+        }
+    }
+
+    // How many entries are in force for it, of the `around` around its holder.
+    pub fn in_force(self, around: usize, i: usize) -> usize
+        ensures { λ r. ⌜ r ≡ inForce self around i ⌝ }
+    {
+        match self {
+            Children::Plain => around,
+            Children::Keyed => around,
+            Children::Growing => i,
         }
     }
 }

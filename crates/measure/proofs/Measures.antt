@@ -1,5 +1,6 @@
 -- What is measured of a value position, a law for each way out of the code. Assumes nothing.
 use mathlib.Core.Path.{_≡_, refl, sym, ap, ap₂, _∙_}
+use mathlib.Core.Bool.{Bool, true, false}
 use mathlib.Core.List.{List}
 use Prim.Native.Nat.{ℕ, suc, _+_, _-_, _%_, _^_, _≤_, _<_}
 use native.Mathlib.Omega.{arith}
@@ -18,7 +19,7 @@ use Rattle.format.specs.declared.head.Children.{Children}
 use Rattle.format.specs.declared.head.Children.the-variants.{Plain, Keyed, Growing}
 use Rattle.format.specs.Tree.{Tree, refer, Trees, size, sizes}
 use Rattle.format.specs.Head.{headAt, keyAt}
-use Rattle.format.specs.Value.{Reading, right, wrong, Run, ran, broke, Reader, leafOf, kindOf, childCount, childrenOf, keyed, child, ahead, follow, run, held, closed, declaring, framed, inForeign, value, document}
+use Rattle.format.specs.Value.{Reading, right, wrong, Run, ran, broke, Reader, leafOf, kindOf, childCount, childrenOf, keyed, child, isKey, inForce, ahead, follow, run, held, closed, declaring, framed, inForeign, value, document}
 use Rattle.format.specs.Value as values
 use Rattle.format.proofs.Steps as clauses
 use Rattle.format.proofs.Heads.{hold-after, declare-after, foreign-after, foreign-within}
@@ -247,18 +248,12 @@ module _ (s : List ℕ) (d around k p z : ℕ) (in-force : k ≡ inForeign aroun
 
 -- ---- one child
 
-module _ (R : Reader) (s : List ℕ) (k i at stop : ℕ) (c : Children) (m : Measured) where
-  pub child-plain : c ≡ Plain → m ≡ measuredOf (R k at stop) → m ≡ measuredOf (child c R s k i at stop)
-  child-plain e f = rw (e, clauses.child-plain R s k i at stop) f
+module _ (R : Reader) (s : List ℕ) (k i at stop : ℕ) (c : Children) (m : Measured) (b : Bool) (e : b ≡ isKey c i) where
+  pub child-key : b ≡ true → m ≡ measuredOf (keyed s (keyAt s at stop)) → m ≡ measuredOf (child c R s k i at stop)
+  child-key t f = rw (clauses.child-key R s k i at stop c (sym e ∙ t)) f
 
-  pub child-growing : c ≡ Growing → m ≡ measuredOf (R i at stop) → m ≡ measuredOf (child c R s k i at stop)
-  child-growing e f = rw (e, clauses.child-entry R s k i at stop) f
-
-  pub child-key : c ≡ Keyed → i % 2 ≡ 0 → m ≡ measuredOf (keyed s (keyAt s at stop)) → m ≡ measuredOf (child c R s k i at stop)
-  child-key e z f = rw (e, clauses.child-key R s k i at stop z) f
-
-  pub child-value : c ≡ Keyed → (i % 2 ≡ 0 → ⊥) → m ≡ measuredOf (R k at stop) → m ≡ measuredOf (child c R s k i at stop)
-  child-value e z f = rw (e, clauses.child-value R s k i at stop z) f
+  pub child-value : b ≡ false → (n : ℕ) → n ≡ inForce c k i → m ≡ measuredOf (R n at stop) → m ≡ measuredOf (child c R s k i at stop)
+  child-value t n g f = rw (clauses.child-value R s k i at stop c (sym e ∙ t), ← g) f
 
 -- ---- the loop over children
 

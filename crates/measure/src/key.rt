@@ -14,7 +14,7 @@ pub fn measure_key(s: &[u8], at: usize, stop: usize) -> Measured
     requires { ⌜ (at ≤ stop) × (stop ≤ length (now s)) ⌝ }
     ensures { λ r. ⌜ r ≡ measuredOf (keyed (now (s .entry)) (keyAt (now (s .entry)) at stop)) ⌝ }
 {
-    let h = format::key_at(s, at, stop);
+    let h = heads::key_at(s, at, stop);
     match h {
         Head::Leaf { content: _, next } => Measured::Right { rows: 1, next },
         Head::Refuse { why, place } => Measured::Wrong { why, place },

@@ -24,7 +24,7 @@ pub fn measure_value(s: &[u8], at: usize, stop: usize, levels: usize, around: us
             place: at,
         };
     }
-    let h = format::head_at(s, at, stop);
+    let h = heads::head_at(s, at, stop);
     match h {
         Head::Leaf { content: _, next } => Measured::Right { rows: 1, next },
         Head::Refer { number, next } => {
@@ -130,16 +130,10 @@ fn measure_child(
     requires { ⌜ (at ≤ stop) × (stop ≤ length (now s)) ⌝ }
     ensures { λ r. ⌜ r ≡ measuredOf (child children (value levels (now (s .entry))) (now (s .entry)) around i at stop) ⌝ }
 {
-    match children {
-        Children::Plain => measure_value(s, at, stop, levels, around),
-        Children::Keyed => {
-            if i % 2 == 0 {
-                return measure_key(s, at, stop);
-            }
-            measure_value(s, at, stop, levels, around)
-        }
-        Children::Growing => measure_value(s, at, stop, levels, i),
+    if children.is_key(i) {
+        return measure_key(s, at, stop);
     }
+    measure_value(s, at, stop, levels, children.in_force(around, i))
 }
 
 // count children, back to back.

@@ -20,12 +20,17 @@ use Rattle.format.specs.Tree.{Tree, size}
 use Rattle.format.specs.Value.{Reading, right, wrong, value, document}
 use Rattle.format.specs.Layout.{layout}
 use Rattle.format.specs.Answer.{answerFor, answer, filled, tableAfter}
-use Rattle.format.proofs.Values.{document-value, document-rows}
+use Rattle.wide.proofs.Numbers.{either}
+use Rattle.format.proofs.Layouts.{size-pos}
+use Rattle.format.proofs.Steps.{document-right}
+use Rattle.format.proofs.Values.{document-next, document-rows, document-value}
 use Rattle.measure.specs.declared.measured.Measured.{Measured}
 use Rattle.measure.specs.declared.measured.Measured.the-variants as measured
 use Rattle.measure.specs.Measured.{measuredOf}
-use Rattle.reader.specs.Ready.{Right, treeOf, Ready, Did}
-use Rattle.reader.proofs.Whole.{whole-ready, whole-did}
+use Rattle.lists.proofs.Zeros.{length-zeroed}
+use Rattle.registry.proofs.Walks.{based-plain, below-none}
+use Rattle.reader.specs.Ready.{placeIn, rowIn, Right, treeOf, nextOf, Ready, Did, Open, Tried, Whole, notRead}
+use Rattle.reader.proofs.Whole.{zeros-alike, whole-ready, whole-did}
 
 module _ (depth : ℕ) (s table : List ℕ) where
   pub too-long : limit < length s → TooLong ≡ answer depth s table
@@ -36,8 +41,8 @@ module _ (depth : ℕ) (s table : List ℕ) where
   unfolding tableAfter
   too-long-zeros h table' e = e ∙ sym (cond-no (leb (length s) limit) _ _ (lt-leb (length s) limit h))
 
-  -- with bytes within the limit, by what is measured
-  module _ (few : length s ≤ limit) (m : Measured) (e : m ≡ measuredOf (document depth s)) where
+  -- with bytes within the limit, by what filling did
+  module _ (few : length s ≤ limit) (table₁ : List ℕ) (used : ℕ) (w : Whole (document depth s) table table₁ used) where
     says : answer depth s table ≡ answerFor (lent table) (document depth s)
     unfolding answer
     says = cond-yes (leb (length s) limit) _ _ (le-leb (length s) limit few)
@@ -46,62 +51,58 @@ module _ (depth : ℕ) (s table : List ℕ) where
     unfolding tableAfter
     holds = cond-yes (leb (length s) limit) _ _ (le-leb (length s) limit few)
 
-    module _ (y : Refusal) (p : ℕ) (f : m ≡ measured.Wrong y p) where
-      refused-answer : (x : Reading) → measuredOf x ≡ measured.Wrong y p → Refused y p ≡ answerFor (lent table) x
-      refused-answer (right t n) q = absurd (let z : _≡_ {A = ℕ} 0 1 = cc in omega arith)
-      refused-answer (wrong u b) q = cc
-
-      refused-table : (x : Reading) → measuredOf x ≡ measured.Wrong y p → zeroed 0 table ≡ filled (lent table) x table
-      refused-table (right t n) q = absurd (let z : _≡_ {A = ℕ} 0 1 = cc in omega arith)
-      refused-table (wrong u b) q = refl
-
-      pub refused : Refused y p ≡ answer depth s table
-      refused = refused-answer (document depth s) (sym e ∙ f) ∙ sym says
-
-      pub refused-zeros : (table' : List ℕ) → table' ≡ zeroed 0 table → table' ≡ tableAfter depth s table
-      refused-zeros table' g = g ∙ refused-table (document depth s) (sym e ∙ f) ∙ sym holds
-
-    module _ (n next : ℕ) (f : m ≡ measured.Right n next) where
-      measured-tree : (x : Reading) → measuredOf x ≡ measured.Right n next → Right x × (size (treeOf x) ≡ n)
+    -- nothing was read
+    module _ (none : used ≡ 0) where
+      not-said : (x : Reading) → (Right x → lent table < size (treeOf x)) → answerFor (lent table) x ≡ notRead x
       unfolding Right treeOf
-      measured-tree (right t b) q = (tt, cc)
-      measured-tree (wrong u b) q = absurd (let z : _≡_ {A = ℕ} 0 1 = cc in omega arith)
+      not-said (right t n) h = cond-no (leb (size t) (lent table)) _ _ (lt-leb (size t) (lent table) (h tt))
+      not-said (wrong e p) h = refl
 
-      pub document-good : Right (document depth s)
-      document-good = measured-tree (document depth s) (sym e ∙ f) .0
+      not-held : (x : Reading) → (Right x → lent table < size (treeOf x)) → filled (lent table) x table ≡ zeroed 0 table
+      unfolding Right treeOf
+      not-held (right t n) h = cond-no (leb (size t) (lent table)) _ _ (lt-leb (size t) (lent table) (h tt))
+      not-held (wrong e p) h = refl
 
-      tree-size : size (treeOf (document depth s)) ≡ n
-      tree-size = measured-tree (document depth s) (sym e ∙ f) .1
+      pub refused : (r : Answer) → r ≡ notRead (document depth s) → r ≡ answer depth s table
+      refused r e = e ∙ sym (says ∙ not-said (document depth s) (w .failed none))
 
-      pub document-room : (l : ℕ) → l ≡ lent table → n ≤ l → size (treeOf (document depth s)) ≤ lent table
-      document-room l g h = omega (arith, tree-size)
+      pub refused-zeros : (table₂ : List ℕ) → table₂ ≡ zeroed 0 table₁ → table₂ ≡ tableAfter depth s table
+      refused-zeros table₂ e = e ∙ zeros-alike table₁ table (w .same) ∙ sym (holds ∙ not-held (document depth s) (w .failed none))
 
-      right-answer : (x : Reading) → measuredOf x ≡ measured.Right n next → answerFor (lent table) x ≡ cond (leb n (lent table)) (Accepted n) (Full n)
-      right-answer (right t b) q = let i : size t ≡ n = cc in ap (λ (k : ℕ). cond (leb k (lent table)) (Accepted k) (Full k)) i
-      right-answer (wrong u b) q = absurd (let z : _≡_ {A = ℕ} 0 1 = cc in omega arith)
+    -- all of it was
+    module _ (some : used ≡ 0 → ⊥) where
+      said : (x : Reading) → Right x → used ≡ size (treeOf x) → size (treeOf x) ≤ lent table → Accepted used ≡ answerFor (lent table) x
+      unfolding Right treeOf
+      said (right t n) g e h = sym (cond-yes (leb (size t) (lent table)) _ _ (le-leb (size t) (lent table) h) ∙ ap Accepted (sym e))
+      said (wrong y p) g e h = absurd g
 
-      right-table : (x : Reading) → measuredOf x ≡ measured.Right n next
-          → filled (lent table) x table ≡ cond (leb n (lent table)) (sets (zeroed 0 table) 0 (layout (treeOf x) 0 [])) (zeroed 0 table)
-      unfolding treeOf
-      right-table (right t b) q = let i : size t ≡ n = cc in ap (λ (k : ℕ). cond (leb k (lent table)) (sets (zeroed 0 table) 0 (layout t 0 [])) (zeroed 0 table)) i
-      right-table (wrong u b) q = absurd (let z : _≡_ {A = ℕ} 0 1 = cc in omega arith)
+      held : (x : Reading) → Right x → size (treeOf x) ≤ lent table → sets (zeroed 0 table) 0 (layout (treeOf x) 0 []) ≡ filled (lent table) x table
+      unfolding Right treeOf
+      held (right t n) g h = sym (cond-yes (leb (size t) (lent table)) _ _ (le-leb (size t) (lent table) h))
+      held (wrong y p) g h = absurd g
 
-      pub full : (l : ℕ) → l ≡ lent table → l < n → Full n ≡ answer depth s table
-      full l g h = sym (says ∙ right-answer (document depth s) (sym e ∙ f) ∙ cond-no (leb n (lent table)) _ _ (lt-leb n (lent table) (omega arith)))
+      pub accepted : Accepted used ≡ answer depth s table
+      accepted = said (document depth s) (w .good some) (w .rows some) (w .room some) ∙ sym says
 
-      pub full-zeros : (l : ℕ) → l ≡ lent table → l < n → (table' : List ℕ) → table' ≡ zeroed 0 table → table' ≡ tableAfter depth s table
-      full-zeros l g h table' k =
-          k ∙ sym (holds ∙ right-table (document depth s) (sym e ∙ f) ∙ cond-no (leb n (lent table)) _ _ (lt-leb n (lent table) (omega arith)))
+      pub accepted-rows : table₁ ≡ tableAfter depth s table
+      accepted-rows = w .words some ∙ held (document depth s) (w .good some) (w .room some) ∙ sym holds
 
-      pub accepted : (l : ℕ) → l ≡ lent table → n ≤ l → Accepted n ≡ answer depth s table
-      accepted l g h = sym (says ∙ right-answer (document depth s) (sym e ∙ f) ∙ cond-yes (leb n (lent table)) _ _ (le-leb n (lent table) (omega arith)))
+-- why a document was not read, by what is measured
+pub not-read-full : (depth : ℕ) (s : List ℕ) (m : Measured) (rows next : ℕ) → m ≡ measuredOf (document depth s) → m ≡ measured.Right rows next → Full rows ≡ notRead (document depth s)
+not-read-full depth s m rows next e f = of (document depth s) (sym e ∙ f)
+  where
+    of : (x : Reading) → measuredOf x ≡ measured.Right rows next → Full rows ≡ notRead x
+    of (right t n) q = cc
+    of (wrong y p) q = absurd (let z : _≡_ {A = ℕ} 0 1 = cc in omega arith)
 
-      pub accepted-rows : (l : ℕ) → l ≡ lent table → n ≤ l → (table' : List ℕ) → table' ≡ sets (zeroed 0 table) 0 (layout (treeOf (document depth s)) 0 [])
-          → table' ≡ tableAfter depth s table
-      accepted-rows l g h table' k =
-          k ∙ sym (holds ∙ right-table (document depth s) (sym e ∙ f) ∙ cond-yes (leb n (lent table)) _ _ (le-leb n (lent table) (omega arith)))
+pub not-read-wrong : (depth : ℕ) (s : List ℕ) (m : Measured) (y : Refusal) (p : ℕ) → m ≡ measuredOf (document depth s) → m ≡ measured.Wrong y p → Refused y p ≡ notRead (document depth s)
+not-read-wrong depth s m y p e f = of (document depth s) (sym e ∙ f)
+  where
+    of : (x : Reading) → measuredOf x ≡ measured.Wrong y p → Refused y p ≡ notRead x
+    of (right t n) q = absurd (let z : _≡_ {A = ℕ} 0 1 = cc in omega arith)
+    of (wrong u b) q = cc
 
--- ---- filling from a document that is right
+-- ---- filling from a document
 
 -- the value of a right document is its tree
 whole-value : (depth : ℕ) (s : List ℕ) → Right (document depth s) → (Right (value (suc depth) s 0 0 (length s))) × (treeOf (value (suc depth) s 0 0 (length s)) ≡ treeOf (document depth s))
@@ -134,15 +135,67 @@ module _ (depth : ℕ) (s table : List ℕ) (few : length s ≤ limit) (good : R
       whole-ready (value (depth + 1) s 0 0 (length s)) table (subst Right level (whole-value depth s good .0))
       (omega (arith, ap size tree-same)) (omega (arith, ap size tree-same, rows-few))
 
-  -- the rows used are lent
-  pub fill-fits : (table₁ : List ℕ) (at₁ row₁ : ℕ) → Did (value (depth + 1) s 0 0 (length s)) table 0 0 0 table₁ at₁ row₁ → length table < 2 ^ 64 → Fits w64 (wordsPerRow * row₁)
-  fill-fits table₁ at₁ row₁ d h = omega (arith, d .past, fill-asks .room)
+-- nothing is in force, and no row stands before it
+pub document-open : (table : List ℕ) → Open table 0 0 0 0
+document-open table = record { below = below-none table 0 0; based = based-plain table 0 0 (omega arith); low = omega arith }
 
-  pub fill-done : (table₁ : List ℕ) (at₁ row₁ : ℕ) → Did (value (depth + 1) s 0 0 (length s)) table 0 0 0 table₁ at₁ row₁
-      → (table₂ : List ℕ) → table₂ ≡ zeroed (wordsPerRow * row₁) table₁ → table₂ ≡ sets (zeroed 0 table) 0 (layout (treeOf (document depth s)) 0 [])
-  fill-done table₁ at₁ row₁ d table₂ z =
-      whole-did (value (depth + 1) s 0 0 (length s)) table fill-asks table₁ at₁ row₁ d table₂ z
-      ∙ ap (λ (t : Tree). sets (zeroed 0 table) 0 (layout t 0 [])) tree-same
+module _ (depth : ℕ) (s table : List ℕ) (few : length s ≤ limit) (table₁ : List ℕ) (f : ℕ) (t : Tried (value (depth + 1) s 0 0 (length s)) table 0 0 0 table₁ f) where
+  abbrev P : Reading
+  P = value (depth + 1) s 0 0 (length s)
+
+  suc-level : value (suc depth) s 0 0 (length s) ≡ P
+  suc-level = let e : suc depth ≡ depth + 1 = omega arith in ap (λ (d : ℕ). value d s 0 0 (length s)) e
+
+  none : (Right (document depth s) → size (treeOf (document depth s)) ≤ lent table → ⊥) → Whole (document depth s) table table₁ 0
+  none n =
+      record {
+        same = t .same;
+        failed = λ e g. either (size (treeOf (document depth s))) (lent table) (λ h. absurd (n g h)) (λ h. h);
+        good = λ z. absurd (z refl);
+        rows = λ z. absurd (z refl);
+        room = λ z. absurd (z refl);
+        words = λ z. absurd (z refl);
+      }
+
+  pub document-failed : f ≡ 0 → Whole (document depth s) table table₁ 0
+  document-failed e = none (λ g h. t .failed e (fill-asks depth s table few g h))
+
+  module _ (z : f ≡ 0 → ⊥) where
+    -- a whole document ends where its value does
+    ends : (x : Reading) → document depth s ≡ x → Right x → placeIn f ≡ length s
+    unfolding Right nextOf
+    ends (right u n) q g = t .did z .place ∙ ap nextOf (sym suc-level ∙ document-value depth s u n q) ∙ document-next depth s u n q
+    ends (wrong e p) q g = absurd g
+
+    pub document-longer : (place : ℕ) → place ≡ placeIn f → (place ≡ length s → ⊥) → Whole (document depth s) table table₁ 0
+    document-longer place e n = none (λ g h. n (e ∙ ends (document depth s) refl g))
+
+    whole : (x : Reading) → P ≡ x → Right x → placeIn f ≡ length s → document depth s ≡ P
+    unfolding Right nextOf
+    whole (right u n) q g e = document-right depth s u n (suc-level ∙ q) (sym (t .did z .place ∙ ap nextOf q) ∙ e) ∙ sym q
+    whole (wrong y p) q g e = absurd g
+
+    module _ (place : ℕ) (ep : place ≡ placeIn f) (el : place ≡ length s) where
+      is : document depth s ≡ P
+      is = whole P refl (t .ready z .good) (sym ep ∙ el)
+
+      pub document-fits : (used : ℕ) → used ≡ rowIn f → length table < 2 ^ 64 → Fits w64 (wordsPerRow * used)
+      document-fits used e h = omega (arith, t .did z .past, t .ready z .room)
+
+      pub document-done : (used : ℕ) (table₂ : List ℕ) → used ≡ rowIn f → table₂ ≡ zeroed (wordsPerRow * used) table₁ → Whole (document depth s) table table₂ used
+      document-done used table₂ e g =
+          let d = t .did z in
+          let r = t .ready z in
+          let rows : used ≡ size (treeOf P) = omega (arith, d .past) in
+          let past : table₂ ≡ zeroed (wordsPerRow * rowIn f) table₁ = g ∙ ap (λ (n : ℕ). zeroed (wordsPerRow * n) table₁) e in
+          rw is (record {
+            same = ap length g ∙ length-zeroed (wordsPerRow * used) table₁ ∙ t .same;
+            failed = λ q x. absurd (let b : ⊥ = omega (arith, size-pos (treeOf P)) in b);
+            good = λ n. r .good;
+            rows = λ n. rows;
+            room = λ n. omega (arith, r .room);
+            words = λ n. whole-did P table r table₁ (placeIn f) (rowIn f) d table₂ past;
+          })
 
 -- ---- one answer
 

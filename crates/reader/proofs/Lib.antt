@@ -3,7 +3,6 @@ pub mod Answers
 pub mod Children
 pub mod Fills
 pub mod Growth
-pub mod Leaves
 pub mod Steps
 pub mod Views
 pub mod Whole

@@ -3,7 +3,7 @@
 use mathlib.Core.Path.{_≡_, refl, sym, ap, subst, _∙_}
 use mathlib.Core.Bool.{true, false}
 use mathlib.Core.List.{List, []}
-use Prim.Native.Nat.{ℕ, _+_, _*_, _≤_, _<_}
+use Prim.Native.Nat.{ℕ, _+_, _*_, _/_, _≤_, _<_}
 use native.Mathlib.Nat.{add-zero}
 use native.Mathlib.Omega.{arith}
 use lib.ListN.{length}
@@ -11,7 +11,7 @@ use lib.Seq.{sets, length-sets}
 use lib.Dec.{ltb}
 use Rattle.rows.specs.declared.row.Row.{Row}
 use Rattle.rows.specs.Table.{wordsPerRow, wordsOf, lent, limit}
-use Rattle.rows.specs.Kinds.{leafRow, holderRow, referenceRow, declarationRow, foreignRow}
+use Rattle.rows.specs.Kinds.{kindForeign, leafRow, holderRow, referenceRow, declarationRow, foreignRow}
 use Rattle.rows.proofs.Rows.{lent-sets}
 use Rattle.format.specs.declared.head.Content.{Content}
 use Rattle.format.specs.declared.head.Content.the-variants as holds
@@ -19,12 +19,12 @@ use Rattle.format.specs.declared.head.Holder.{Holder}
 use Rattle.format.specs.declared.head.Holder.the-variants.{Array, Record, Map}
 use Rattle.format.specs.declared.head.Children.{Children}
 use Rattle.format.specs.declared.head.Children.the-variants.{Growing}
-use Rattle.format.specs.Tree.{many, Tree, leaf, refer, size, sizes}
-use Rattle.format.specs.Value.{Reading, right, Run, Reader, leafOf, kindOf, childrenOf, inForce, held, referred, declaring, framed}
+use Rattle.format.specs.Tree.{many, Tree, leaf, refer, hold, none, more, size, sizes}
+use Rattle.format.specs.Value.{Reading, right, wrong, Run, ran, broke, Reader, closed, leafOf, kindOf, childrenOf, inForce, held, referred, declaring, framed}
 use Rattle.format.specs.Layout.{isEntry, layout, layouts, entries}
 use Rattle.registry.specs.Registry.{walk, chain, Below}
 use Rattle.format.proofs.Values.{leaf-size}
-use Rattle.reader.specs.Ready.{Laid, Right, treeOf, nextOf, treesOf, nextsOf, Ready, Did, ReadyAll, DidAll}
+use Rattle.reader.specs.Ready.{behind, placeIn, rowIn, Laid, Right, treeOf, nextOf, Ran, treesOf, nextsOf, Ready, Did, ReadyAll, DidAll}
 use Rattle.registry.proofs.Walks.{chain-at, below-fewer, below-none, walk-start}
 use Rattle.format.proofs.Layouts.{no-entry, around-force, size-pos, lay-hold, lay-foreign, lay-declare}
 use Rattle.reader.proofs.Growth.{chain-declared, below-declared}
@@ -52,15 +52,17 @@ did-length P table row first k table' at' row' d = ap length (d .words) ∙ simp
 
 -- ---- one row
 
--- done at the places that the code has
-did-at : (P : Reading) (table : List ℕ) (row first k : ℕ) (table' : List ℕ) (a w at' row' : ℕ) → at' ≡ a → row' ≡ w → Did P table row first k table' a w
-    → Did P table row first k table' at' row'
-did-at P table row first k table' a w at' row' e f d = record { words = d .words; place = e ∙ d .place; past = f ∙ d .past }
+pub place-in : (next row f : ℕ) → next ≤ limit → f ≡ behind next row → placeIn f ≡ next
+place-in next row f h e = rw e (omega arith)
 
-pub one-laid : (kind w0 w1 w2 w3 next : ℕ) (table : List ℕ) (row first k : ℕ) (table' : List ℕ) (at' row' : ℕ)
-    → Laid table row (wordsOf (leafRow kind row w0 w1 w2 w3)) next table' at' row' → Did (right (leaf kind w0 w1 w2 w3) next) table row first k table' at' row'
+pub row-in : (next row f : ℕ) → next ≤ limit → f ≡ behind next row → rowIn f ≡ row
+row-in next row f h e = rw e (omega arith)
+
+pub one-laid : (kind w0 w1 w2 w3 next : ℕ) (table : List ℕ) (row first k : ℕ) (table' : List ℕ) (f : ℕ) → next ≤ limit
+    → Laid table row (wordsOf (leafRow kind row w0 w1 w2 w3)) next table' f → Did (right (leaf kind w0 w1 w2 w3) next) table row first k table' (placeIn f) (rowIn f)
 unfolding layout size treeOf nextOf
-one-laid kind w0 w1 w2 w3 next table row first k table' at' row' l = record { words = l .put; place = l .place; past = l .past }
+one-laid kind w0 w1 w2 w3 next table row first k table' f h l =
+    record { words = l .put; place = place-in next (row + 1) f h (l .past); past = row-in next (row + 1) f h (l .past) }
 
 -- a leaf takes one row, which does not hang on the registry
 leaf-words : (s : List ℕ) (c : Content) (row : ℕ) (registry : List ℕ) → layout (leafOf s c) row [] ≡ layout (leafOf s c) row registry
@@ -71,23 +73,19 @@ leaf-words s (holds.Integer signed place n) row registry = refl
 leaf-words s (holds.Span kind place n) row registry = refl
 leaf-words s (holds.Char codepoint) row registry = refl
 
-pub leaf-laid : (s : List ℕ) (c : Content) (next : ℕ) (table : List ℕ) (row first k : ℕ) (table' : List ℕ) (at' row' : ℕ)
-    → Laid table row (layout (leafOf s c) row []) next table' at' row' → Did (right (leafOf s c) next) table row first k table' at' row'
+pub leaf-laid : (s : List ℕ) (c : Content) (next : ℕ) (table : List ℕ) (row first k : ℕ) (table' : List ℕ) (f : ℕ) → next ≤ limit
+    → Laid table row (layout (leafOf s c) row []) next table' f → Did (right (leafOf s c) next) table row first k table' (placeIn f) (rowIn f)
 unfolding treeOf nextOf
-leaf-laid s c next table row first k table' at' row' l =
+leaf-laid s c next table row first k table' f h l =
     record {
       words = l .put ∙ ap (sets table (wordsPerRow * row)) (leaf-words s c row (chain table first k));
-      place = l .place;
-      past = l .past ∙ ap (λ (n : ℕ). row + n) (sym (leaf-size s c));
+      place = place-in next (row + 1) f h (l .past);
+      past = row-in next (row + 1) f h (l .past) ∙ ap (λ (n : ℕ). row + n) (sym (leaf-size s c));
     }
 
 -- ---- a reference
 
 module _ (n at next : ℕ) (table : List ℕ) (row first k : ℕ) (r : Ready (referred (ltb n k) n at next) table row first k) where
-  -- what finding its entry asks
-  pub refer-room : row ≤ lent table
-  refer-room = omega (arith, r .room)
-
   pub refer-below : Below table first n row
   refer-below = below-fewer table first k n row row (r .below) (omega (arith, refer-view n k at next (r .good) .known)) (omega arith)
 
@@ -96,16 +94,16 @@ module _ (n at next : ℕ) (table : List ℕ) (row first k : ℕ) (r : Ready (re
   unfolding Below
   refer-low = omega (arith, r .below n (refer-view n k at next (r .good) .known), r .small)
 
-  pub refer-laid : (table' : List ℕ) (at' row' : ℕ) → Laid table row (wordsOf (referenceRow row n (walk table first n))) next table' at' row'
-      → Did (referred (ltb n k) n at next) table row first k table' at' row'
+  pub refer-laid : (table' : List ℕ) (f : ℕ) → next ≤ limit → Laid table row (wordsOf (referenceRow row n (walk table first n))) next table' f
+      → Did (referred (ltb n k) n at next) table row first k table' (placeIn f) (rowIn f)
   unfolding layout size treeOf nextOf
-  refer-laid table' at' row' l =
+  refer-laid table' f h l =
       let v = refer-view n k at next (r .good) in
-      did-as (referred (ltb n k) n at next) (right (refer n) next) table row first k table' at' row' (v .is)
+      did-as (referred (ltb n k) n at next) (right (refer n) next) table row first k table' (placeIn f) (rowIn f) (v .is)
       (record {
         words = l .put ∙ ap (λ (x : ℕ). sets table (wordsPerRow * row) (wordsOf (referenceRow row n x))) (sym (chain-at table first k n (v .known)));
-        place = l .place;
-        past = l .past;
+        place = place-in next (row + 1) f h (l .past);
+        past = row-in next (row + 1) f h (l .past);
       })
 
 -- ---- a holder
@@ -147,6 +145,13 @@ module _ (h : Holder) (n : ℕ) (Q : Run) (table : List ℕ) (row first k : ℕ)
           place = d .place ∙ sym (v .ends);
           past = past ∙ ap (λ (m : ℕ). row + m) (sym hold-rows);
         }
+
+-- what its children have room for, it has
+pub hold-up : (h : Holder) (n : ℕ) (Q : Run) (table : List ℕ) (row first k : ℕ) → Below table first k row → ReadyAll Q (childrenOf h) table (row + 1) first k 0
+    → Ready (held (kindOf h) n Q) table row first k
+unfolding Right treeOf Ran treesOf size
+hold-up h n (ran ts next) table row first k b r = record { good = tt; room = omega (arith, r .room); small = omega (arith, r .small); below = b }
+hold-up h n (broke e place) table row first k b r = absurd (r .good)
 
 -- ---- a declaration
 
@@ -212,6 +217,20 @@ module _ (n : ℕ) (Q : Run) (R : Reader) (stop : ℕ) (table : List ℕ) (row f
             past = declare-past ∙ ap (λ (m : ℕ). row + m) (sym declare-rows);
           }
 
+pub declare-up : (n : ℕ) (Q : Run) (R : Reader) (stop : ℕ) (table : List ℕ) (row first k : ℕ) → Below table first k row → Ran Q
+    → (table₁ : List ℕ) (row₁ : ℕ) → length table₁ ≡ length table → row₁ ≡ row + 1 + sizes (treesOf Q) → Ready (R n (nextsOf Q) stop) table₁ row₁ (row + 1) n
+    → Ready (declaring n Q R stop) table row first k
+unfolding Right treeOf Ran treesOf nextsOf size
+declare-up n (ran es next) R stop table row first k b g table₁ row₁ same past r = go (R n next stop) refl
+  where
+    go : (P : Reading) → R n next stop ≡ P → Ready (closed n es P) table row first k
+    go (right t m) e =
+        let u : Ready (right t m) table₁ row₁ (row + 1) n = subst (λ (p : Reading). Ready p table₁ row₁ (row + 1) n) e r in
+        let l : lent table₁ ≡ lent table = ap (λ (x : ℕ). x / wordsPerRow) same in
+        record { good = tt; room = omega (arith, u .room); small = omega (arith, u .small); below = b }
+    go (wrong y p) e = absurd (subst Right e (r .good))
+declare-up n (broke e place) R stop table row first k b g table₁ row₁ same past r = absurd g
+
 -- ---- a foreign document that is right
 
 module _ (place n : ℕ) (R : Reading) (table : List ℕ) (row first k : ℕ) (r : Ready (framed place n R) table row first k) (good : Right R) (whole : nextOf R ≡ place + n) where
@@ -246,3 +265,10 @@ module _ (place n : ℕ) (R : Reading) (table : List ℕ) (row first k : ℕ) (r
           place = d .place ∙ whole ∙ sym (ap nextOf v);
           past = foreign-past ∙ ap (λ (m : ℕ). row + m) (sym foreign-rows);
         }
+
+pub foreign-up : (place n : ℕ) (R : Reading) (table : List ℕ) (row first k : ℕ) → Below table first k row → Ready R table (row + 1) first k → nextOf R ≡ place + n
+    → Ready (framed place n R) table row first k
+unfolding Right treeOf size
+foreign-up place n R table row first k b r whole =
+    let u : Ready (right (hold kindForeign 0 (more (treeOf R) none)) (place + n)) table row first k = record { good = tt; room = omega (arith, r .room); small = omega (arith, r .small); below = b } in
+    subst (λ (p : Reading). Ready p table row first k) (sym (framed-whole place n R (r .good) whole)) u

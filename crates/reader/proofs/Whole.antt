@@ -29,6 +29,10 @@ front-zeros l vs h =
     zeroed-front l vs h
     ∙ sym (sets-front (zeroed 0 l) vs (omega (arith, length-zeroed 0 l)) ∙ ap (λ (r : List ℕ). vs ++ r) (ap (drop (length vs)) (zeroed-all l) ∙ drop-zeros (length vs) (length l)))
 
+-- zeros do not hang on what they replace
+pub zeros-alike : (l m : List ℕ) → length l ≡ length m → zeroed 0 l ≡ zeroed 0 m
+zeros-alike l m e = zeroed-all l ∙ ap (λ (n : ℕ). replicate n 0) e ∙ sym (zeroed-all m)
+
 -- nothing is in force
 pub whole-ready : (P : Reading) (table : List ℕ) → Right P → size (treeOf P) ≤ lent table → size (treeOf P) ≤ limit → Ready P table 0 0 0
 whole-ready P table good room small = record { good = good; room = omega arith; small = omega arith; below = below-none table 0 0 }

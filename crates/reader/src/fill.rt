@@ -1,12 +1,16 @@
-// Filling a table from bytes that measured right: the shape of measuring, with the registry in force as its first entry's row and how many.
+// Filling a table, the shape of measuring: rows are laid as they are met, and where one is wrong or has no room the answer is 0, and what
+// stands in the table means nothing. The registry in force is the base of its entries and how many they are.
 ghost use mathlib.Core.Path.{_≡_};
 ghost use Prim.Native.Nat.{_+_, _≤_, _<_};
 ghost use lib.ListN.{length};
-ghost use Rattle.rows.specs.Table.{limit};
+ghost use Rattle.rows.specs.Table.{lent, limit};
 ghost use Rattle.format.specs.declared.head.Children.the-variants.{Growing};
 ghost use Rattle.format.specs.Value.{kindOf, childCount, childrenOf, inForce, child, run, held, declaring, inForeign, framed, value};
-ghost use Rattle.reader.specs.Ready.{Right, nextOf, Ready, Did, ReadyAll, DidAll};
-use crate::filled::Filled;
+ghost use Rattle.registry.specs.Registry.{firstIn};
+ghost use Rattle.reader.specs.Ready.{Right, nextOf, Open, Tried, OpenAll, TriedAll};
+use crate::filled::filled;
+use crate::filled::place_in;
+use crate::filled::row_in;
 use crate::one::fill_damaged;
 use crate::one::fill_key;
 use crate::one::fill_leaf;
@@ -26,17 +30,46 @@ pub fn fill_value(
     stop: usize,
     levels: usize,
     row: usize,
-    first: usize,
+    base: usize,
     around: usize,
-) -> Filled
-    requires { ⌜ Ready (value levels (now s) around at stop) (now table) row first around ⌝ }
+) -> usize
+    requires { ⌜ Open (now table) row base around at ⌝ }
     requires { ⌜ (stop ≤ length (now s)) × (length (now s) ≤ limit) ⌝ }
-    ensures { λ r. ⌜ Did (value levels (now (s .entry)) around at stop) (now (table .entry)) row first around (now (table .exit)) (r .next) (r .row) ⌝ }
+    ensures { λ r. ⌜ Tried (value levels (now (s .entry)) around at stop) (now (table .entry)) row (firstIn base) around (now (table .exit)) r ⌝ }
 {
-    let h = format::head_at(s, at, stop);
+    if levels == 0 {
+        return 0;
+    }
+    if rows::lent(table) <= row {
+        return 0;
+    }
+    fill_at(table, s, at, stop, levels, row, base, around)
+}
+
+// A position that is not too deep and whose own row is lent, by its head.
+fn fill_at(
+    table: &mut [u32],
+    s: &[u8],
+    at: usize,
+    stop: usize,
+    levels: usize,
+    row: usize,
+    base: usize,
+    around: usize,
+) -> usize
+    requires { ⌜ Open (now table) row base around at ⌝ }
+    requires { ⌜ (0 < levels) × (row < lent (now table)) × (stop ≤ length (now s)) × (length (now s) ≤ limit) ⌝ }
+    ensures { λ r. ⌜ Tried (value levels (now (s .entry)) around at stop) (now (table .entry)) row (firstIn base) around (now (table .exit)) r ⌝ }
+{
+    let h = heads::head_at(s, at, stop);
     match h {
         Head::Leaf { content, next } => fill_leaf(table, s, row, content, next),
-        Head::Refer { number, next } => fill_reference(table, row, first, number, next),
+        Head::Refer { number, next } => {
+            if around <= number {
+                return 0;
+            }
+            fill_reference(table, row, base, number, next)
+        }
         Head::Hold {
             holder,
             count,
@@ -48,18 +81,18 @@ pub fn fill_value(
             stop,
             levels - 1,
             row,
-            first,
+            base,
             around,
             holder,
             count,
         ),
         Head::Declare { count, next } => {
-            fill_declared(table, s, next, stop, levels - 1, row, first, around, count)
+            fill_declared(table, s, next, stop, levels - 1, row, base, around, count)
         }
         Head::Foreign { place, size } => {
-            fill_foreign(table, s, place, size, levels - 1, row, first, around)
+            fill_foreign(table, s, place, size, levels - 1, row, base, around)
         }
-        Head::Refuse { why: _, place: _ } => Filled { next: at, row },
+        Head::Refuse { why: _, place: _ } => 0,
     }
 }
 
@@ -71,19 +104,22 @@ fn fill_hold(
     stop: usize,
     levels: usize,
     row: usize,
-    first: usize,
+    base: usize,
     around: usize,
     holder: Holder,
     count: usize,
-) -> Filled
-    requires { ⌜ Ready (held (kindOf holder) count (run (value levels (now s)) (childrenOf holder) (now s) around 0 (childCount holder count) at stop)) (now table) row first around ⌝ }
-    requires { ⌜ (stop ≤ length (now s)) × (length (now s) ≤ limit) × (count ≤ limit) ⌝ }
-    ensures { λ r. ⌜ Did (held (kindOf holder) count (run (value levels (now (s .entry))) (childrenOf holder) (now (s .entry)) around 0 (childCount holder count) at stop)) (now (table .entry)) row first around (now (table .exit)) (r .next) (r .row) ⌝ }
+) -> usize
+    requires { ⌜ Open (now table) row base around at ⌝ }
+    requires { ⌜ (row < at) × (row < lent (now table)) × (at ≤ stop) × (stop ≤ length (now s)) × (length (now s) ≤ limit) × (count ≤ limit) ⌝ }
+    ensures { λ r. ⌜ Tried (held (kindOf holder) count (run (value levels (now (s .entry))) (childrenOf holder) (now (s .entry)) around 0 (childCount holder count) at stop)) (now (table .entry)) row (firstIn base) around (now (table .exit)) r ⌝ }
 {
     let n = holder.children(count);
     let c = holder.reading();
-    let f = fill_children(table, s, at, stop, levels, row + 1, first, around, c, n);
-    let end = f.row;
+    let f = fill_children(table, s, at, stop, levels, row + 1, base, around, c, n);
+    if f == 0 {
+        return 0;
+    }
+    let end = row_in(f);
     rows::lay(table, row, Row::holder(holder.kind(), end, count));
     f
 }
@@ -96,13 +132,13 @@ fn fill_declared(
     stop: usize,
     levels: usize,
     row: usize,
-    first: usize,
+    base: usize,
     around: usize,
     count: usize,
-) -> Filled
-    requires { ⌜ Ready (declaring count (run (value levels (now s)) Growing (now s) 0 0 count at stop) (value levels (now s)) stop) (now table) row first around ⌝ }
-    requires { ⌜ (stop ≤ length (now s)) × (length (now s) ≤ limit) × (count ≤ limit) ⌝ }
-    ensures { λ r. ⌜ Did (declaring count (run (value levels (now (s .entry))) Growing (now (s .entry)) 0 0 count at stop) (value levels (now (s .entry))) stop) (now (table .entry)) row first around (now (table .exit)) (r .next) (r .row) ⌝ }
+) -> usize
+    requires { ⌜ Open (now table) row base around at ⌝ }
+    requires { ⌜ (row < at) × (row < lent (now table)) × (at ≤ stop) × (stop ≤ length (now s)) × (length (now s) ≤ limit) × (count ≤ limit) ⌝ }
+    ensures { λ r. ⌜ Tried (declaring count (run (value levels (now (s .entry))) Growing (now (s .entry)) 0 0 count at stop) (value levels (now (s .entry))) stop) (now (table .entry)) row (firstIn base) around (now (table .exit)) r ⌝ }
 {
     let under = row + 1;
     let es = fill_children(
@@ -117,10 +153,17 @@ fn fill_declared(
         Children::Growing,
         count,
     );
-    let next = es.next;
-    let own = es.row;
-    let f = fill_value(table, s, next, stop, levels, own, under, count);
-    let end = f.row;
+    if es == 0 {
+        return 0;
+    }
+    let next = place_in(es);
+    let own = row_in(es);
+    let inside = registry::base_of(under, own, count);
+    let f = fill_value(table, s, next, stop, levels, own, inside, count);
+    if f == 0 {
+        return 0;
+    }
+    let end = row_in(f);
     rows::lay(table, row, Row::declaration(end, count));
     f
 }
@@ -133,12 +176,12 @@ fn fill_foreign(
     size: usize,
     levels: usize,
     row: usize,
-    first: usize,
+    base: usize,
     around: usize,
-) -> Filled
-    requires { ⌜ Ready (framed place size (value levels (now s) (inForeign around) place (place + size))) (now table) row first around ⌝ }
-    requires { ⌜ (place + size ≤ length (now s)) × (length (now s) ≤ limit) ⌝ }
-    ensures { λ r. ⌜ Did (framed place size (value levels (now (s .entry)) (inForeign around) place (place + size))) (now (table .entry)) row first around (now (table .exit)) (r .next) (r .row) ⌝ }
+) -> usize
+    requires { ⌜ Open (now table) row base around place ⌝ }
+    requires { ⌜ (row < place) × (row < lent (now table)) × (place + size ≤ length (now s)) × (length (now s) ≤ limit) ⌝ }
+    ensures { λ r. ⌜ Tried (framed place size (value levels (now (s .entry)) (inForeign around) place (place + size))) (now (table .entry)) row (firstIn base) around (now (table .exit)) r ⌝ }
 {
     let end = place + size;
     let inside = format::in_foreign(around);
@@ -146,7 +189,7 @@ fn fill_foreign(
     match m {
         Measured::Right { rows: _, next } => {
             if next == end {
-                return fill_right(table, s, place, size, levels, row, first, around);
+                return fill_right(table, s, place, size, levels, row, base, around);
             }
             fill_damaged(table, row, place, size, Refusal::Extra.number())
         }
@@ -162,28 +205,53 @@ fn fill_right(
     size: usize,
     levels: usize,
     row: usize,
-    first: usize,
+    base: usize,
     around: usize,
-) -> Filled
-    requires { ⌜ Ready (framed place size (value levels (now s) (inForeign around) place (place + size))) (now table) row first around ⌝ }
+) -> usize
+    requires { ⌜ Open (now table) row base around place ⌝ }
     requires { ⌜ Right (value levels (now s) (inForeign around) place (place + size)) × (nextOf (value levels (now s) (inForeign around) place (place + size)) ≡ place + size) ⌝ }
-    requires { ⌜ (place + size ≤ length (now s)) × (length (now s) ≤ limit) ⌝ }
-    ensures { λ r. ⌜ Did (framed place size (value levels (now (s .entry)) (inForeign around) place (place + size))) (now (table .entry)) row first around (now (table .exit)) (r .next) (r .row) ⌝ }
+    requires { ⌜ (row < place) × (row < lent (now table)) × (place + size ≤ length (now s)) × (length (now s) ≤ limit) ⌝ }
+    ensures { λ r. ⌜ Tried (framed place size (value levels (now (s .entry)) (inForeign around) place (place + size))) (now (table .entry)) row (firstIn base) around (now (table .exit)) r ⌝ }
 {
     let inside = format::in_foreign(around);
-    let f = fill_value(
-        table,
-        s,
-        place,
-        place + size,
-        levels,
-        row + 1,
-        first,
-        inside,
-    );
-    let end = f.row;
+    let f = fill_value(table, s, place, place + size, levels, row + 1, base, inside);
+    if f == 0 {
+        return 0;
+    }
+    let end = row_in(f);
     rows::lay(table, row, Row::foreign(end));
     f
+}
+
+// A child, its leaf tried before its head.
+fn fill_one(
+    table: &mut [u32],
+    s: &[u8],
+    at: usize,
+    stop: usize,
+    levels: usize,
+    row: usize,
+    base: usize,
+    around: usize,
+) -> usize
+    requires { ⌜ Open (now table) row base around at ⌝ }
+    requires { ⌜ (stop ≤ length (now s)) × (length (now s) ≤ limit) ⌝ }
+    ensures { λ r. ⌜ Tried (value levels (now (s .entry)) around at stop) (now (table .entry)) row (firstIn base) around (now (table .exit)) r ⌝ }
+{
+    if levels == 0 {
+        return 0;
+    }
+    if rows::lent(table) <= row {
+        return 0;
+    }
+    if stop <= at {
+        return 0;
+    }
+    let next = leaves::lay_plain(table, s, at, stop, row);
+    if next == 0 {
+        return fill_value(table, s, at, stop, levels, row, base, around);
+    }
+    filled(next, row + 1)
 }
 
 // Child number i of a holder.
@@ -194,25 +262,20 @@ fn fill_child(
     stop: usize,
     levels: usize,
     row: usize,
-    first: usize,
+    base: usize,
     around: usize,
     children: Children,
     i: usize,
-) -> Filled
-    requires { ⌜ Ready (child children (value levels (now s)) (now s) around i at stop) (now table) row first (inForce children around i) ⌝ }
-    requires { ⌜ (stop ≤ length (now s)) × (length (now s) ≤ limit) ⌝ }
-    ensures { λ r. ⌜ Did (child children (value levels (now (s .entry))) (now (s .entry)) around i at stop) (now (table .entry)) row first (inForce children around i) (now (table .exit)) (r .next) (r .row) ⌝ }
+) -> usize
+    requires { ⌜ Open (now table) row base (inForce children around i) at ⌝ }
+    requires { ⌜ (at ≤ stop) × (stop ≤ length (now s)) × (length (now s) ≤ limit) ⌝ }
+    ensures { λ r. ⌜ Tried (child children (value levels (now (s .entry))) (now (s .entry)) around i at stop) (now (table .entry)) row (firstIn base) (inForce children around i) (now (table .exit)) r ⌝ }
 {
-    match children {
-        Children::Plain => fill_value(table, s, at, stop, levels, row, first, around),
-        Children::Keyed => {
-            if i % 2 == 0 {
-                return fill_key(table, s, at, stop, row, first, around);
-            }
-            fill_value(table, s, at, stop, levels, row, first, around)
-        }
-        Children::Growing => fill_value(table, s, at, stop, levels, row, first, i),
+    let inside = children.in_force(around, i);
+    if children.is_key(i) {
+        return fill_key(table, s, at, stop, row, base, inside);
     }
+    fill_one(table, s, at, stop, levels, row, base, inside)
 }
 
 // n children, back to back.
@@ -223,14 +286,14 @@ fn fill_children(
     stop: usize,
     levels: usize,
     row: usize,
-    first: usize,
+    base: usize,
     around: usize,
     children: Children,
     n: usize,
-) -> Filled
-    requires { ⌜ ReadyAll (run (value levels (now s)) children (now s) around 0 n at stop) children (now table) row first around 0 ⌝ }
-    requires { ⌜ (stop ≤ length (now s)) × (length (now s) ≤ limit) ⌝ }
-    ensures { λ r. ⌜ DidAll (run (value levels (now (s .entry))) children (now (s .entry)) around 0 n at stop) children (now (table .entry)) row first around 0 (now (table .exit)) (r .next) (r .row) ⌝ }
+) -> usize
+    requires { ⌜ OpenAll children (now table) row base around 0 at ⌝ }
+    requires { ⌜ (at ≤ stop) × (stop ≤ length (now s)) × (length (now s) ≤ limit) ⌝ }
+    ensures { λ r. ⌜ TriedAll (run (value levels (now (s .entry))) children (now (s .entry)) around 0 n at stop) children (now (table .entry)) row (firstIn base) around 0 (now (table .exit)) r ⌝ }
 {
     let mut i = 0;
     let mut place = at;
@@ -243,17 +306,17 @@ fn fill_children(
             stop,
             levels,
             under,
-            first,
+            base,
             around,
             children,
             i,
         );
-        place = f.next;
-        under = f.row;
+        if f == 0 {
+            return 0;
+        }
+        place = place_in(f);
+        under = row_in(f);
         i += 1;
     }
-    Filled {
-        next: place,
-        row: under,
-    }
+    filled(place, under)
 }

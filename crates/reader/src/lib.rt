@@ -2,37 +2,53 @@
 ghost use mathlib.Core.Path.{_≡_};
 ghost use Prim.Native.Nat.{_≤_};
 ghost use lib.ListN.{length};
-ghost use lib.Seq.{sets};
-ghost use mathlib.Core.List.{[]};
-ghost use Rattle.rows.specs.Table.{lent, limit};
-ghost use Rattle.lists.specs.Zeroed.{zeroed};
-ghost use Rattle.format.specs.Tree.{size};
-ghost use Rattle.format.specs.Layout.{layout};
+ghost use Rattle.rows.specs.Table.{limit};
 ghost use Rattle.format.specs.Value.{document};
 ghost use Rattle.format.specs.Answer.{depthLimit, answer, tableAfter};
-ghost use Rattle.reader.specs.Ready.{Right, treeOf};
+ghost use Rattle.reader.specs.Ready.{Whole, notRead};
 
 mod fill;
 mod filled;
-mod leaf;
 mod one;
 
 pub use format::Answer;
 use measure::Measured;
 use rows::Row;
 
-// Fills a table from a document that measured right and has room, and zeroes what is behind its rows.
-fn fill_document(data: &[u8], table: &mut [u32], depth: usize)
-    requires { ⌜ (depth ≤ depthLimit) × (length (now «data») ≤ limit) × Right (document depth (now «data»)) × (size (treeOf (document depth (now «data»))) ≤ lent (now table)) ⌝ }
-    ensures { λ _. ⌜ now (table .exit) ≡ sets (zeroed 0 (now (table .entry))) 0 (layout (treeOf (document depth (now («data» .entry)))) 0 []) ⌝ }
+// Why a document was not read: what is wrong, or that it needs more rows than lent.
+fn why_not(data: &[u8], depth: usize) -> Answer
+    requires { ⌜ depth ≤ depthLimit ⌝ }
+    ensures { λ r. ⌜ r ≡ notRead (document depth (now («data» .entry))) ⌝ }
+{
+    let m = measure::measure(data, depth);
+    match m {
+        Measured::Right {
+            rows: needed,
+            next: _,
+        } => Answer::Full { needed },
+        Measured::Wrong { why, place } => Answer::Refused { why, place },
+    }
+}
+
+// Fills a table from a document, with zeros behind its rows: how many they are, or 0 where the document is wrong or needs more than lent.
+fn fill_document(data: &[u8], table: &mut [u32], depth: usize) -> usize
+    requires { ⌜ (depth ≤ depthLimit) × (length (now «data») ≤ limit) ⌝ }
+    ensures { λ r. ⌜ Whole (document depth (now («data» .entry))) (now (table .entry)) (now (table .exit)) r ⌝ }
 {
     let stop = data.len();
     let f = fill::fill_value(table, data, 0, stop, depth + 1, 0, 0, 0);
-    let used = f.row;
+    if f == 0 {
+        return 0;
+    }
+    if filled::place_in(f) != stop {
+        return 0;
+    }
+    let used = filled::row_in(f);
     rows::zero_from(table, Row::WORDS * used);
+    used
 }
 
-// Reads a document whose positions nest to `depth`.
+// Reads a document whose positions nest to `depth`: in one pass, and one more where it is refused, to say why.
 fn read_within(data: &[u8], table: &mut [u32], depth: usize) -> Answer
     requires { ⌜ depth ≤ depthLimit ⌝ }
     ensures { λ r. ⌜ r ≡ answer depth (now («data» .entry)) (now (table .entry)) ⌝ }
@@ -42,24 +58,12 @@ fn read_within(data: &[u8], table: &mut [u32], depth: usize) -> Answer
         rows::zero_from(table, 0);
         return Answer::TooLong;
     }
-    let m = measure::measure(data, depth);
-    match m {
-        Measured::Right {
-            rows: needed,
-            next: _,
-        } => {
-            if rows::lent(table) < needed {
-                rows::zero_from(table, 0);
-                return Answer::Full { needed };
-            }
-            fill_document(data, table, depth);
-            Answer::Accepted { rows: needed }
-        }
-        Measured::Wrong { why, place } => {
-            rows::zero_from(table, 0);
-            Answer::Refused { why, place }
-        }
+    let used = fill_document(data, table, depth);
+    if used == 0 {
+        rows::zero_from(table, 0);
+        return why_not(data, depth);
     }
+    Answer::Accepted { rows: used }
 }
 
 // Reads a document into a table: the answer, and under every refusal a table of zeros.

@@ -1,16 +1,19 @@
 -- Laws of the registry in the table: the rows that the ends link, and what is laid behind them leaves them. Assumes nothing.
 use mathlib.Core.Path.{_≡_, refl, sym, ap, ap₂, _∙_}
-use Prim.Native.Nat.{ℕ, zero, suc, _+_, _*_, _≤_, _<_}
+use mathlib.Core.Bool.{Bool, true, false, cond}
+use Prim.Native.Nat.{ℕ, zero, suc, _+_, _-_, _*_, _≤_, _<_}
 use native.Mathlib.Numerals.{add-one}
 use native.Mathlib.Omega.{arith}
 use native.Mathlib.Decide.{decLt}
 use mathlib.Core.List.{List, [], _∷_, _++_}
 use lib.ListN.{length, getD, length-append, List·getD-append}
+use lib.Dec.{eqb}
+use borrow.Author.Tests.{eq-eqb, eqb-true, ne-eqb}
 use lib.Seq.{sets, getD-at}
 use Rattle.rows.specs.declared.row.Row.{Row}
 use Rattle.rows.specs.Table.{wordsPerRow, rowAt, lent}
 use Rattle.rows.proofs.Rows.{row-sets-behind}
-use Rattle.registry.specs.Registry.{walk, chain, Below}
+use Rattle.registry.specs.Registry.{walk, chain, Below, firstIn, Based, baseOf}
 
 -- ---- a step of a walk
 
@@ -99,3 +102,55 @@ module _ (table : List ℕ) (row : ℕ) (words : List ℕ) (first k : ℕ) (belo
   pub below-sets : (next : ℕ) → row ≤ next → Below (sets table (wordsPerRow * row) words) first k next
   unfolding Below
   below-sets next h i lt = omega (arith, walk-sets i (omega arith), below i lt)
+
+-- ---- bases
+
+-- a base that is walked from
+pub based-walk : (table : List ℕ) (base n r : ℕ) → base < 4294967296 → r ≡ walk table base n → r ≡ walk table (firstIn base) n
+based-walk table base n r h e = let q : firstIn base ≡ base = omega arith in rw q e
+
+pub based-below : (table : List ℕ) (base n row : ℕ) → base < 4294967296 → Below table (firstIn base) n row → Below table base n row
+based-below table base n row h b = let q : firstIn base ≡ base = omega arith in rw q at b
+
+-- one that is not
+pub based-even : (table : List ℕ) (base n : ℕ) → 4294967296 ≤ base → Based table base (n + 1) → base - 4294967296 + n ≡ walk table (firstIn base) n
+based-even table base n h b = let q : firstIn base ≡ base - 4294967296 = omega (arith, b .small) in sym (b .even h n (omega arith) ∙ ap (λ (x : ℕ). x + n) q)
+
+-- fewer entries
+pub based-fewer : (table : List ℕ) (base n m : ℕ) → Based table base n → m ≤ n → Based table base m
+based-fewer table base n m b h = record { small = b .small; even = λ e i l. b .even e i (omega arith) }
+
+-- a row that is walked from is its own base
+pub based-plain : (table : List ℕ) (first n : ℕ) → first < 4294967296 → Based table first n
+based-plain table first n h = record { small = omega arith; even = λ e. absurd (let z : ⊥ = omega arith in z) }
+
+pub first-plain : (first : ℕ) → first < 4294967296 → firstIn first ≡ first
+first-plain first h = omega arith
+
+-- words laid behind the entries leave it
+pub based-sets : (table : List ℕ) (row : ℕ) (words : List ℕ) (base n : ℕ) → Below table (firstIn base) n row → Based table base n → Based (sets table (wordsPerRow * row) words) base n
+based-sets table row words base n below b =
+    record { small = b .small; even = λ e i l. walk-sets table row words (firstIn base) n below i (omega arith) ∙ b .even e i l }
+
+-- the base of entries that stand from `first` to `end`
+pub base-even : (first end count : ℕ) → end - first ≡ count → first + 4294967296 ≡ baseOf first end count
+base-even first end count e = sym (ap (λ (b : Bool). cond b (first + 4294967296) first) (eq-eqb (end - first) count e))
+
+pub base-plain : (first end count : ℕ) → (end - first ≡ count → ⊥) → first ≡ baseOf first end count
+base-plain first end count e = sym (ap (λ (b : Bool). cond b (first + 4294967296) first) (ne-eqb (end - first) count e))
+
+pub first-base : (first end count : ℕ) → first < 4294967296 → firstIn (baseOf first end count) ≡ first
+first-base first end count h = of (eqb (end - first) count)
+  where
+    of : (b : Bool) → firstIn (cond b (first + 4294967296) first) ≡ first
+    of true = omega arith
+    of false = omega arith
+
+pub based-of : (table : List ℕ) (first end count : ℕ) → first < 4294967296 → (end - first ≡ count → (i : ℕ) → i < count → walk table first i ≡ first + i) → Based table (baseOf first end count) count
+based-of table first end count h f = of (eqb (end - first) count) refl
+  where
+    of : (b : Bool) → eqb (end - first) count ≡ b → Based table (cond b (first + 4294967296) first) count
+    of true e =
+        let q : firstIn (first + 4294967296) ≡ first = omega arith in
+        record { small = omega arith; even = rw q (λ z. f (eqb-true (end - first) count e)) }
+    of false e = based-plain table first count h

@@ -1,6 +1,9 @@
 -- The registry in force, as two numbers and the table: the first entry's row, and how many are in force. Definitions only.
-use Prim.Native.Nat.{ℕ, zero, suc, _<_}
+use mathlib.Core.Path.{_≡_}
+use mathlib.Core.Bool.{cond}
+use Prim.Native.Nat.{ℕ, zero, suc, _+_, _-_, _%_, _≤_, _<_}
 use mathlib.Core.List.{List, [], _∷_, _++_}
+use lib.Dec.{eqb}
 use Rattle.rows.specs.Table.{rowAt}
 
 -- "children stand back to back", "End is the row number after all the row's children": the row that stands n ends on from the row `first`
@@ -16,3 +19,16 @@ chain table first (suc n) = chain table first n ++ (walk table first n ∷ [])
 -- each of them stands before `row`
 unfoldable pub Below : List ℕ → ℕ → ℕ → ℕ → Type 0
 Below table first n row = (i : ℕ) → i < n → walk table first i < row
+
+-- ---- the first entry's row in one number: above 2^32 it says that each entry has one row, so that none is walked over
+
+abbrev pub firstIn : ℕ → ℕ
+firstIn base = base % 4294967296
+
+pub record Based (table : List ℕ) (base n : ℕ) : Type 0 where
+  pub small : base < 8589934592
+  pub even : (4294967296 ≤ base → (i : ℕ) → i < n → walk table (firstIn base) i ≡ firstIn base + i)
+
+-- the base of `count` entries that stand from row `first` to row `end`
+abbrev pub baseOf : ℕ → ℕ → ℕ → ℕ
+baseOf first end count = cond (eqb (end - first) count) (first + 4294967296) first

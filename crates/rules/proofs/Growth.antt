@@ -16,13 +16,13 @@ use Rattle.rows.proofs.Rows.{drop-row}
 use Rattle.format.specs.declared.head.Children.{Children}
 use Rattle.format.specs.declared.head.Children.the-variants.{Plain, Growing}
 use Rattle.format.specs.Tree.{Tree, refer, Trees, none, more, many, size, sizes}
-use Rattle.format.specs.Value.{Reading, right, wrong, childCount, childrenOf, inForeign, value, whole}
+use Rattle.format.specs.Value.{Reading, right, wrong, childCount, childrenOf, inForeign, value, whole, isKey}
 use Rattle.format.specs.Layout.{isEntry, layout, layouts, grown, entries}
 use Rattle.format.proofs.Layouts.{no-entry}
 use Rattle.rules.specs.declared.shape.Shape.{Shape}
 use Rattle.rules.specs.declared.shape.Shape.the-variants.{Bad, Leaf, Refer, Hold, Declare, Whole, Damaged}
 use Rattle.rules.specs.Shape.{spelt, shapeOf}
-use Rattle.rules.specs.Grow.{Growth, grew, bad, Growths, grewAll, badAll, Grower, isKey, leafAt, endsAt, keyRow, growKey, item, before, follow, grows, held, closed, declared, damaged, referred, byShape, rowGrows, grow}
+use Rattle.rules.specs.Grow.{Growth, grew, bad, Growths, grewAll, badAll, Grower, leafAt, endsAt, keyRow, growKey, item, before, follow, grows, held, closed, declared, damaged, referred, byShape, rowGrows, grow}
 use Rattle.rules.specs.Fine.{plain, damaged as spoilt, HoldFine, holder, foreign, KeyFine, Either, after, Fine, Fines}
 use Rattle.rules.proofs.Levels.{down}
 use Rattle.rules.proofs.Says.{Says, says}

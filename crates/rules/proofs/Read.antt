@@ -32,14 +32,13 @@ use Rattle.format.specs.declared.head.Children.{Children}
 use Rattle.format.specs.declared.head.Children.the-variants.{Plain, Keyed, Growing}
 use Rattle.format.specs.Tree.{Tree, leaf, Trees, many}
 use Rattle.format.specs.Head.{codepoint, floatSizes, floatSize, headAt, keyAt}
-use Rattle.format.specs.Value.{Reading, right, wrong, Run, ran, broke, integerOf, leafOf, kindOf, childCount, childrenOf, keyed, inTurn, child, inForce, ahead, follow, run, held, referred, closed, declaring, framed, framedRight, inForeign, step, value, ended, whole, document}
+use Rattle.format.specs.Value.{Reading, right, wrong, Run, ran, broke, integerOf, leafOf, kindOf, childCount, childrenOf, keyed, inTurn, child, inForce, ahead, follow, run, held, referred, closed, declaring, framed, framedRight, inForeign, step, value, ended, whole, document, isKey}
 use Rattle.format.proofs.Values.{document-value}
 use Rattle.format.specs.Layout.{isEntry}
 use Rattle.format.proofs.Layouts.{around-force}
 use Rattle.format.proofs.Heads.{Payload, floating, written, plain as binary, ContentAt, KeyContent, KeyStood, Stood, head-stood, key-stood}
 use Rattle.rules.specs.declared.shape.Shape.the-variants.{Leaf, Hold, Whole, Damaged}
 use Rattle.rules.specs.Shape.{named, blank, inside, isSmall, oneOf, span, spelt, fits, shapeOf}
-use Rattle.rules.specs.Grow.{isKey}
 use Rattle.rules.specs.Fine.{plain, damaged, holder, foreign, KeyFine, Either, after, Fine, Fines}
 use Rattle.rules.proofs.Levels.{down}
 use Rattle.format.specs.Refusal.{numberOf as refusalNumber}

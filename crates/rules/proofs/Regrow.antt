@@ -15,13 +15,13 @@ use Rattle.rows.proofs.Rows.{length-words, row-words}
 use Rattle.format.specs.declared.head.Children.{Children}
 use Rattle.format.specs.declared.head.Children.the-variants.{Growing}
 use Rattle.format.specs.Tree.{Tree, leaf, refer, hold, declare, Trees, none, more, many, size, sizes}
-use Rattle.format.specs.Value.{Reading}
+use Rattle.format.specs.Value.{Reading, isKey}
 use Rattle.format.specs.Layout.{isEntry, layout, layouts, grown, entries}
 use Rattle.format.proofs.Layouts.{no-entry, length-layout, length-layouts}
 use Rattle.rules.specs.declared.shape.Shape.{Shape}
 use Rattle.rules.specs.declared.shape.Shape.the-variants.{Leaf, Refer, Hold, Declare, Whole, Damaged}
 use Rattle.rules.specs.Shape.{shapeOf}
-use Rattle.rules.specs.Grow.{Growth, grew, bad, Growths, grewAll, Grower, isKey, endsAt, growKey, item, before, follow, grows, held, closed, declared, damaged, byShape, grow}
+use Rattle.rules.specs.Grow.{Growth, grew, bad, Growths, grewAll, Grower, endsAt, growKey, item, before, follow, grows, held, closed, declared, damaged, byShape, grow}
 use Rattle.rules.specs.Fine.{LeafFine, plain, damaged as spoilt, HoldFine, holder, foreign, KeyFine, Either, Fine, Fines}
 use Rattle.rules.proofs.Growth.{length-grown, length-entries}
 use Rattle.rules.proofs.Says.{refer-shape, declare-shape}

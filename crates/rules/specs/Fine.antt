@@ -11,11 +11,10 @@ use Rattle.format.specs.declared.head.Holder.{Holder}
 use Rattle.format.specs.declared.head.Children.{Children}
 use Rattle.format.specs.declared.head.Children.the-variants.{Plain, Growing}
 use Rattle.format.specs.Tree.{Tree, leaf, refer, hold, declare, Trees, none, more, many, size}
-use Rattle.format.specs.Value.{wrong, childCount, childrenOf, inForeign, value, whole}
+use Rattle.format.specs.Value.{wrong, childCount, childrenOf, inForeign, value, whole, isKey}
 use Rattle.format.specs.Layout.{isEntry, layout}
 use Rattle.rules.specs.declared.shape.Shape.the-variants.{Leaf, Hold, Whole, Damaged}
 use Rattle.rules.specs.Shape.{spelt, shapeOf}
-use Rattle.rules.specs.Grow.{isKey}
 use Rattle.format.specs.Refusal.{numberOf as refusalNumber}
 
 -- a leaf over the data s; below it `levels` levels are left, and k entries are in force

@@ -11,7 +11,7 @@ use Rattle.rows.specs.Kinds.{kindKey}
 use Rattle.format.specs.declared.head.Children.{Children}
 use Rattle.format.specs.declared.head.Children.the-variants.{Plain, Keyed, Growing}
 use Rattle.format.specs.Tree.{Tree, leaf, refer, hold, declare, Trees, none, more}
-use Rattle.format.specs.Value.{Reading, right, wrong, childCount, childrenOf, inForeign, value, whole}
+use Rattle.format.specs.Value.{Reading, right, wrong, childCount, childrenOf, inForeign, value, whole, isKey}
 use Rattle.format.specs.Layout.{isEntry, grown, entries}
 use Rattle.rules.specs.declared.shape.Shape.{Shape}
 use Rattle.rules.specs.declared.shape.Shape.the-variants.{Bad, Leaf, Refer, Hold, Declare, Whole, Damaged}
@@ -33,12 +33,6 @@ abbrev pub Grower : Type 0
 Grower = List ℕ → ℕ → Growth
 
 -- ---- children
-
--- "a record: key and value in turn": whether child number i is a key
-abbrev pub isKey : Children → ℕ → Bool
-isKey Plain i = false
-isKey Keyed i = eqb (i % 2) 0
-isKey Growing i = false
 
 abbrev pub leafAt : Row → Tree
 leafAt w = leaf (w .kind) (w .w0) (w .w1) (w .w2) (w .w3)

@@ -95,7 +95,7 @@ pub fn fits(s: &[u8], w: Row, kind: Kind) -> bool
         Kind::Binary => span(s, w.w0, w.w1, w.w2, w.w3),
         Kind::Char => {
             if blank(0, w.w1, w.w2, w.w3) {
-                return format::is_codepoint(rows::number(w.w0));
+                return heads::is_codepoint(rows::number(w.w0));
             }
             false
         }

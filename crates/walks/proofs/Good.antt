@@ -1,4 +1,5 @@
 -- A spot that stands in a table: its rows are there, it is right, and so are the entries in force. Assumes nothing.
+use Rattle.format.specs.Value.{isKey}
 use mathlib.Core.Path.{_≡_, refl, sym, ap, ap₂, _∙_, subst}
 use Prim.Native.Nat.{ℕ, _+_, _-_, _*_, _≤_}
 use native.Mathlib.Omega.{arith}
@@ -15,7 +16,6 @@ use Rattle.format.specs.declared.head.Children.the-variants.{Growing}
 use Rattle.format.specs.Tree.{Tree, leaf, refer, hold, declare, Trees, none, more, many, size, sizes}
 use Rattle.format.specs.Layout.{isEntry, layout, layouts, entries}
 use Rattle.format.proofs.Layouts.{no-entry, length-layout}
-use Rattle.rules.specs.Grow.{isKey}
 use Rattle.rules.specs.Fine.{HoldFine, holder, foreign, KeyFine, Either, after, Fine, Fines}
 use Rattle.walks.specs.Spots.{Spot, spot, Spots, nil, cons, rowOf, endOf, behind, held, declared, children}
 use Rattle.rules.proofs.Regrow.{behind as rows-behind}

@@ -7,15 +7,18 @@ ghost use Rattle.wide.specs.Body.{sizeAt, rank};
 use crate::step;
 use crate::wide::Wide;
 
-// The sizes of a body.
-const SIZES: [usize; 8] = [1, 2, 3, 4, 6, 8, 12, 16];
-
-// The size at a place.
+// The size at a place. A list would be laid on the stack at each call.
 pub fn size_at(j: usize) -> usize
     requires { ⌜ j < 8 ⌝ }
     ensures { λ r. ⌜ r ≡ sizeAt j ⌝ }
 {
-    SIZES[j]
+    if j < 4 {
+        return j + 1;
+    }
+    if j < 6 {
+        return 2 * j - 2;
+    }
+    4 * j - 12
 }
 
 // The place of the shortest unsigned body.

@@ -1,4 +1,5 @@
 -- The rows of a right tree spell its bytes. By induction on the tree. Assumes nothing.
+use Rattle.format.specs.Value.{isKey}
 use mathlib.Core.Path.{_≡_, refl, sym, ap, ap₂, _∙_, subst}
 use mathlib.Core.Bool.{Bool, true, false, cond}
 use mathlib.Core.List.{List, [], _++_, append-nil, append-assoc}
@@ -22,7 +23,6 @@ use Rattle.format.proofs.Layouts.{length-layout, length-layouts}
 use Rattle.rules.specs.declared.kind.Kind.{Kind}
 use Rattle.rules.specs.declared.shape.Shape.the-variants as shape
 use Rattle.rules.specs.Shape.{named}
-use Rattle.rules.specs.Grow.{isKey}
 use Rattle.rules.specs.Fine.{HoldFine, holder, foreign, KeyFine, Either, Fine, Fines}
 use Rattle.rules.proofs.Says.{spelt-within}
 use Rattle.rules.proofs.Regrow.{behind}

@@ -1,6 +1,6 @@
 -- `checker::check_within` meets its contract. Assumes nothing.
 use borrow.Author.Needs.{needs}
-use Rattle.checker.proofs.Answers.{none, many, unlent, long, start-asks, right, elsewhere, broken}
+use Rattle.checker.proofs.Answers.{none, many, unlent, long, start-asks, start-based, right, elsewhere, broken}
 use Rattle.checker.proofs.check_within.Statement.{statement}
 use Rattle.checker.proofs.check_within.Tie as tie
 
@@ -23,7 +23,7 @@ add-check-value : tie.Need-add-check-value
 add-check-value c = search needs
 
 check-value-requires : tie.Need-check-value-requires
-check-value-requires c κs = search start-asks
+check-value-requires c κs = (search start-asks, search start-based)
 
 enum-known-g : tie.Need-enum-known-g
 enum-known-g c = search needs

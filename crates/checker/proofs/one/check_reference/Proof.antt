@@ -1,14 +1,14 @@
 -- `checker::one::check_reference` meets its contract. Assumes nothing.
 use borrow.Author.Needs.{needs}
-use Rattle.checker.proofs.Leaves.{number-below, refer-yes, refer-other, refer-out}
+use Rattle.checker.proofs.Leaves.{number-based, number-below, refer-yes, refer-other, refer-out}
 use Rattle.checker.proofs.one.check_reference.Statement.{statement}
 use Rattle.checker.proofs.one.check_reference.Tie as tie
 
 number-requires : tie.Need-number-requires
 number-requires c κs = search needs
 
-entry-row-requires : tie.Need-entry-row-requires
-entry-row-requires c κs = (search needs, search number-below)
+entry-in-requires : tie.Need-entry-in-requires
+entry-in-requires c κs = (search needs, search needs, search number-below, search number-based)
 
 number-requires-2 : tie.Need-number-requires-2
 number-requires-2 c κs = search needs
@@ -30,7 +30,7 @@ check-reference-spec =
     tie.close
     (tie.spec
     number-requires
-    entry-row-requires
+    entry-in-requires
     number-requires-2
     add-t11
     returns

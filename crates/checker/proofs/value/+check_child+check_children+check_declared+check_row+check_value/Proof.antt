@@ -2,7 +2,7 @@
 -- level the way from a row to its children to one child. A law of Checks answers each way out. Assumes nothing.
 use Prim.Native.Nat.{ℕ, _+_, _*_, _-_, _<_}
 use borrow.Author.Needs.{needs}
-use Rattle.checker.proofs.Checks.{child-growing, child-key, child-plain, child-value, damaged-inside, declared-not, declared-up, entries-ask, going-all, going-first, going-next, going-not, going-safe, Going, growing-asks, hold-asks, keyed-asks, own-asks, plain-asks, row-bad, row-damaged, row-declare, row-hold, row-leaf, row-refer, row-whole, safe-lent, value-deep, value-in, value-out, whole-asks}
+use Rattle.checker.proofs.Checks.{child-asks, child-based, child-key, child-value, damaged-inside, declared-not, declared-up, entries-ask, entries-based, going-all, going-first, going-next, going-not, going-safe, Going, hold-asks, hold-based, own-asks, own-based, own-under, row-bad, row-damaged, row-declare, row-hold, row-leaf, row-refer, row-whole, safe-lent, value-deep, value-based, value-in, value-out, whole-asks, whole-based}
 use borrow.Fn.Kinds.{In}
 use borrow.Fn.PlainCycle.{Measures, is, falls, and}
 use Rattle.checker.proofs.value.check_child.Reads as check-child
@@ -24,6 +24,10 @@ use Rattle.checker.proofs.one.check_damaged.Reads as check-damaged-read
 use Rattle.checker.proofs.one.check_key.Reads as check-key-reads
 use Rattle.checker.proofs.one.check_reference.Reads as check-reference-reads
 use Rattle.checker.proofs.one.ends_at.Reads as ends-at-reads
+use Rattle.registry.specs.Registry.{firstIn}
+use Rattle.registry.proofs.base_of.Reads as base-of-reads
+use Rattle.format.proofs.head.Children.in_force.Reads as in-force-reads
+use Rattle.format.proofs.head.Children.is_key.Reads as is-key-reads
 use Rattle.format.proofs.head.Holder.children.Reads as children-reads
 use Rattle.format.proofs.head.Holder.reading.Reads as reading-reads
 use Rattle.rows.proofs.number.Reads as number-reads
@@ -107,11 +111,11 @@ check-value-below t =
     and 2 check-value-kinds.ps (falls 2 check-value-kinds.ps _<_ μ-check-value t) check-value.Pre
 
 abbrev check-children-Inv-loop : check-children-lts.InvT-loop
-check-children-Inv-loop table n s row levels first around children count i₀ here₀ i here =
-    Going levels table n s first around children count row i here
+check-children-Inv-loop table n s row levels base around children count i₀ here₀ i here =
+    Going levels table n s (firstIn base) around children count row i here
 
 abbrev check-children-μ-loop : check-children-lts.MeasureT-loop
-check-children-μ-loop table n s row levels first around children count i₀ here₀ i here = count - i
+check-children-μ-loop table n s row levels base around children count i₀ here₀ i here = count - i
 
 pub +check-child+check-children+check-declared+check-row+check-value-spec :
     {M : Type 1} → statement M
@@ -123,24 +127,23 @@ pub +check-child+check-children+check-declared+check-row+check-value-spec :
     μ-check-row
     μ-check-value
     (λ t. check-child-lts.spec (
-      check-value-below t,
-      check-value.Post,
+      is-key-reads.Asked,
+      is-key-reads.Learnt,
       check-key-reads.Asked,
       check-key-reads.Learnt,
+      in-force-reads.Asked,
+      in-force-reads.Learnt,
+      check-value-below t,
+      check-value.Post,
     )
     (check-child-at t)
     check-child.Post
-    (λ c. search needs)
-    (λ c κs. (search needs, search plain-asks))
-    (λ c. search needs)
+    (λ c κs. search needs)
     (λ c κs. search needs)
     (λ c. search child-key)
-    (λ c κs. (search needs, search keyed-asks))
-    (λ c. search needs)
-    (λ c κs. (search needs, search growing-asks))
-    (λ c. search child-plain)
-    (λ c. search child-value)
-    (λ c. search child-growing))
+    (λ c κs. search needs)
+    (λ c κs. (search needs, (search child-asks, search value-based)))
+    (λ c. search child-value))
     (λ t. check-children-lts.spec
     (check-child-below t, check-child.Post)
     (check-children-at t)
@@ -148,7 +151,7 @@ pub +check-child+check-children+check-declared+check-row+check-value-spec :
     check-children-Inv-loop
     check-children-μ-loop
     (λ c. search going-first)
-    (λ c κs. (search needs, search going-safe))
+    (λ c κs. (search needs, (search going-safe, search child-based)))
     (λ c. search needs)
     (λ c. search needs)
     (λ c. search needs)
@@ -159,14 +162,17 @@ pub +check-child+check-children+check-declared+check-row+check-value-spec :
     (λ t. check-declared-lts.spec (
       check-children-below t,
       check-children.Post,
+      base-of-reads.Asked,
+      base-of-reads.Learnt,
       check-value-below t,
       check-value.Post,
     )
     (check-declared-at t)
     check-declared.Post
-    (λ c κs. (search needs, search entries-ask))
+    (λ c κs. (search needs, (search entries-ask, search entries-based)))
     (λ c. search needs)
-    (λ c κs. (search needs, search own-asks))
+    (λ c κs. (search needs, search own-under))
+    (λ c κs. (search needs, (search own-asks, search own-based)))
     (λ c. search needs)
     (λ c. search declared-up)
     (λ c. search declared-not))
@@ -192,20 +198,20 @@ pub +check-child+check-children+check-declared+check-row+check-value-spec :
     (λ c. search needs)
     (λ c. search needs)
     (λ c. search needs)
-    (λ c κs. (search safe-lent, search needs, search needs))
+    (λ c κs. (search safe-lent, search needs, search needs, search needs))
     (λ c. search needs)
     (λ c κs. search needs)
     (λ c κs. search needs)
     (λ c κs. search needs)
     (λ c. search needs)
-    (λ c κs. (search needs, search hold-asks))
+    (λ c κs. (search needs, (search hold-asks, search hold-based)))
     (λ c. search needs)
     (λ c. search needs)
     (λ c κs. search needs)
     (λ c κs. search needs)
     (λ c. search needs)
     (λ c. search needs)
-    (λ c κs. (search needs, search whole-asks))
+    (λ c κs. (search needs, (search whole-asks, search whole-based)))
     (λ c. search needs)
     (λ c κs. (search needs, search damaged-inside))
     (λ c. search row-bad)

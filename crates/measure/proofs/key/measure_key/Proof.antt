@@ -5,7 +5,7 @@ use Rattle.measure.proofs.key.measure_key.Statement.{statement}
 use Rattle.measure.proofs.key.measure_key.Tie as tie
 use Rattle.measure.proofs.key.measure_key.Reads as reads
 use Rattle.measure.proofs.key.measure_key.Lts as lts
-use Rattle.format.proofs.key_at.Reads as key-at-reads
+use Rattle.heads.proofs.key_at.Reads as key-at-reads
 
 key-at-requires : tie.Need-key-at-requires
 key-at-requires c κs = search needs

@@ -4,7 +4,7 @@ use Prim.Native.Nat.{ℕ, _+_, _*_, _-_, _<_}
 use borrow.Author.Needs.{needs}
 use Rattle.format.specs.Value.{value}
 use Rattle.format.proofs.Heads.{declare-within, hold-few, hold-within}
-use Rattle.measure.proofs.Measures.{Kept, child-growing, child-key, child-plain, child-value, children-stop, declare-pos, declare-right, declare-wrong, entries-fit, entry-wrong, foreign-inside, foreign-pos, frame-extra, frame-fits, frame-right, frame-wrong, hold-pos, hold-right, hold-wrong, holder-fits, kept-all, kept-first, kept-fits, kept-next, kept-wrong, value-declare, value-deep, value-foreign, value-hold, value-leaf, value-no-entry, value-refer, value-refuse, whole-fits}
+use Rattle.measure.proofs.Measures.{Kept, child-key, child-value, children-stop, declare-pos, declare-right, declare-wrong, entries-fit, entry-wrong, foreign-inside, foreign-pos, frame-extra, frame-fits, frame-right, frame-wrong, hold-pos, hold-right, hold-wrong, holder-fits, kept-all, kept-first, kept-fits, kept-next, kept-wrong, value-declare, value-deep, value-foreign, value-hold, value-leaf, value-no-entry, value-refer, value-refuse, whole-fits}
 use borrow.Fn.Kinds.{In}
 use borrow.Fn.PlainCycle.{Measures, is, falls, and}
 use Rattle.measure.proofs.value.measure_child.Reads as measure-child
@@ -27,7 +27,9 @@ use Rattle.measure.proofs.value.measure_value.Kinds as measure-value-ki
 use Rattle.measure.proofs.value.+measure_child+measure_children+measure_declared+measure_framed+measure_hold+measure_value.Lts-measure_value as measure-value-lts
 use Rattle.format.proofs.head.Holder.children.Reads as children-reads
 use Rattle.format.proofs.head.Holder.reading.Reads as reading-reads
-use Rattle.format.proofs.head_at.Reads as head-at-reads
+use Rattle.format.proofs.head.Children.in_force.Reads as in-force-reads
+use Rattle.format.proofs.head.Children.is_key.Reads as is-key-reads
+use Rattle.heads.proofs.head_at.Reads as head-at-reads
 use Rattle.format.proofs.in_foreign.Reads as in-foreign-reads
 use Rattle.measure.proofs.key.measure_key.Reads as measure-key-reads
 use Rattle.measure.proofs.value.+measure_child+measure_children+measure_declared+measure_framed+measure_hold+measure_value.{
@@ -157,24 +159,23 @@ pub +measure-child+measure-children+measure-declared+measure-framed+measure-hold
     μ-measure-hold
     μ-measure-value
     (λ t. measure-child-lts.spec (
-      measure-value-below t,
-      measure-value.Post,
+      is-key-reads.Asked,
+      is-key-reads.Learnt,
       measure-key-reads.Asked,
       measure-key-reads.Learnt,
+      in-force-reads.Asked,
+      in-force-reads.Learnt,
+      measure-value-below t,
+      measure-value.Post,
     )
     (measure-child-at t)
     measure-child.Post
-    (λ c. search needs)
     (λ c κs. search needs)
-    (λ c. search needs)
     (λ c κs. search needs)
     (λ c. search child-key)
     (λ c κs. search needs)
-    (λ c. search needs)
     (λ c κs. search needs)
-    (λ c. search child-plain)
-    (λ c. search child-value)
-    (λ c. search child-growing))
+    (λ c. search child-value))
     (λ t. measure-children-lts.spec
     (measure-child-below t, measure-child.Post)
     (measure-children-at t)
