@@ -2,12 +2,12 @@
 use mathlib.Core.Path.{_≡_, refl, sym, ap, ap₂, _∙_, subst}
 use mathlib.Core.Bool.{Bool, true, false, cond}
 use mathlib.Core.List.{List, [], _∷_, _++_, append-nil}
-use Prim.Native.Nat.{ℕ, suc, _+_, _-_, _≤_, _<_}
+use Prim.Native.Nat.{ℕ, zero, suc, _+_, _-_, _≤_, _<_}
 use native.Mathlib.Nat.{min-eq-left}
 use native.Mathlib.Omega.{arith}
-use lib.ListN.{length, take, drop, getD, set, length-append, length-take, length-set}
-use lib.Seq.{sets, drop-cons, length-sets}
-use Rattle.lists.proofs.Sets.{sets-append}
+use lib.ListN.{length, take, drop, getD, set, length-append, length-take, length-drop, length-set}
+use lib.Seq.{sets, drop-cons, length-sets, take-add, drop-drop}
+use Rattle.lists.proofs.Sets.{sets-append, sets-over}
 use Rattle.wide.specs.Number.{bytesOf}
 use Rattle.wide.specs.Words.{valueOf}
 use Rattle.wide.proofs.Numbers.{length-bytesOf}
@@ -77,6 +77,68 @@ pub part-end : (out t d : List ℕ) (at place size i : ℕ) → size ≤ i → s
 part-end out t d at place size i l g =
     let z : 0 ≡ size - i = omega arith in
     ap (λ (k : ℕ). sets out (at + i) (take k (drop (place + i) d))) z ∙ g
+
+-- ---- eight bytes of it, and a part that grows by them
+
+abbrev cells : ℕ → ℕ → List ℕ → List ℕ
+cells zero p d = []
+cells (suc n) p d = getD d p 0 ∷ cells n (suc p) d
+
+cells-part : (n p : ℕ) (d : List ℕ) → p + n ≤ length d → take n (drop p d) ≡ cells n p d
+cells-part zero p d h = refl
+cells-part (suc n) p d h = ap (take (suc n)) (drop-cons d p 0 (omega arith)) ∙ ap (λ (l : List ℕ). getD d p 0 ∷ l) (cells-part n (suc p) d (omega arith))
+
+pub eight-laid : (out d : List ℕ) (at p : ℕ) → p + 8 ≤ length d
+    → set (set (set (set (set (set (set (set out at (getD d p 0)) (at + 1) (getD d (p + 1) 0)) (at + 2) (getD d (p + 2) 0)) (at + 3) (getD d (p + 3) 0))
+    (at + 4) (getD d (p + 4) 0)) (at + 5) (getD d (p + 5) 0)) (at + 6) (getD d (p + 6) 0)) (at + 7) (getD d (p + 7) 0)
+    ≡ sets out at (take 8 (drop p d))
+eight-laid out d at p h =
+    let e1 : at + 1 ≡ suc at = omega arith in
+    let q1 : p + 1 ≡ suc p = omega arith in
+    let e2 : at + 2 ≡ suc (suc at) = omega arith in
+    let q2 : p + 2 ≡ suc (suc p) = omega arith in
+    let e3 : at + 3 ≡ suc (suc (suc at)) = omega arith in
+    let q3 : p + 3 ≡ suc (suc (suc p)) = omega arith in
+    let e4 : at + 4 ≡ suc (suc (suc (suc at))) = omega arith in
+    let q4 : p + 4 ≡ suc (suc (suc (suc p))) = omega arith in
+    let e5 : at + 5 ≡ suc (suc (suc (suc (suc at)))) = omega arith in
+    let q5 : p + 5 ≡ suc (suc (suc (suc (suc p)))) = omega arith in
+    let e6 : at + 6 ≡ suc (suc (suc (suc (suc (suc at))))) = omega arith in
+    let q6 : p + 6 ≡ suc (suc (suc (suc (suc (suc p))))) = omega arith in
+    let e7 : at + 7 ≡ suc (suc (suc (suc (suc (suc (suc at)))))) = omega arith in
+    let q7 : p + 7 ≡ suc (suc (suc (suc (suc (suc (suc p)))))) = omega arith in
+    rw (cells-part 8 p d h, e1, q1, e2, q2, e3, q3, e4, q4, e5, q5, e6, q6, e7, q7)
+
+-- bytes from e on over those that are laid up to i
+pub part-over : (out d : List ℕ) (at e i n : ℕ) → e ≤ i → i ≤ e + n → e + n ≤ length d
+    → sets (sets out at (take i d)) (at + e) (take n (drop e d)) ≡ sets out at (take (e + n) d)
+part-over out d at e i n l u h =
+    let k : i ≡ e + (i - e) = omega arith in
+    let x : List ℕ = take e d in
+    let le : length x ≡ e = length-take e d ∙ min-eq-left (omega arith) in
+    let y : List ℕ = take (i - e) (drop e d) in
+    let z : List ℕ = take n (drop e d) in
+    let ly : length y ≤ length z = omega (arith, part-long d e (i - e) (omega arith), part-long d e n h) in
+    ap (λ (j : ℕ). sets (sets out at (take j d)) (at + e) z) k
+    ∙ ap (λ (v : List ℕ). sets (sets out at v) (at + e) z) (take-add e (i - e) d)
+    ∙ ap (λ (v : List ℕ). sets v (at + e) z) (sets-append out at x y ∙ ap (λ (j : ℕ). sets (sets out at x) (at + j) y) le)
+    ∙ sets-over (sets out at x) (at + e) y z ly
+    ∙ ap (λ (j : ℕ). sets (sets out at x) (at + j) z) (sym le)
+    ∙ sym (sets-append out at x z)
+    ∙ ap (sets out at) (sym (take-add e n d))
+
+pub part-on : (out₀ out after s : List ℕ) (at place e i n : ℕ) → e ≤ i → i ≤ e + n → place + (e + n) ≤ length s → out ≡ sets out₀ at (take i (drop place s))
+    → after ≡ sets out (at + e) (take n (drop (place + e) s)) → after ≡ sets out₀ at (take (e + n) (drop place s))
+part-on out₀ out after s at place e i n l u h eo ea =
+    ea
+    ∙ ap₂ (λ (o v : List ℕ). sets o (at + e) (take n v)) eo (sym (drop-drop e place s))
+    ∙ part-over out₀ (drop place s) at e i n l u (omega (arith, length-drop place s))
+
+pub part-last : (out₀ out after s : List ℕ) (at place size i : ℕ) → 8 ≤ size → i ≤ size → size - i ≤ 8 → place + size ≤ length s → out ≡ sets out₀ at (take i (drop place s))
+    → after ≡ sets out (at + (size - 8)) (take 8 (drop (place + (size - 8)) s)) → after ≡ sets out₀ at (take size (drop place s))
+part-last out₀ out after s at place size i w l u h eo ea =
+    let k : size - 8 + 8 ≡ size = omega arith in
+    part-on out₀ out after s at place (size - 8) i 8 (omega arith) (omega arith) (omega arith) eo ea ∙ ap (λ (n : ℕ). sets out₀ at (take n (drop place s))) k
 
 -- ---- a row
 

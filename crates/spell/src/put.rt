@@ -1,5 +1,6 @@
 // Laying a row's own bytes.
 ghost use mathlib.Core.Path.{_≡_};
+ghost use mathlib.Core.Bool.{true, false};
 ghost use Prim.Native.Nat.{_+_, _≤_};
 ghost use lib.ListN.{length, take, drop};
 ghost use lib.Seq.{sets};
@@ -72,11 +73,51 @@ fn put_plan(out: &mut [u8], at: usize, p: Plan) -> usize
     next + 1 + p.size
 }
 
+// Eight bytes of the data from `place` on: one load and one store.
+fn put_eight(out: &mut [u8], at: usize, data: &[u8], place: usize)
+    requires { ⌜ (at + 8 ≤ length (now out)) × (place + 8 ≤ length (now «data»)) ⌝ }
+    ensures { λ _. ⌜ now (out .exit) ≡ sets (now (out .entry)) at (take 8 (drop place (now («data» .entry)))) ⌝ }
+{
+    let a = data[place];
+    let b = data[place + 1];
+    let c = data[place + 2];
+    let d = data[place + 3];
+    let e = data[place + 4];
+    let f = data[place + 5];
+    let g = data[place + 6];
+    let h = data[place + 7];
+    out[at] = a;
+    out[at + 1] = b;
+    out[at + 2] = c;
+    out[at + 3] = d;
+    out[at + 4] = e;
+    out[at + 5] = f;
+    out[at + 6] = g;
+    out[at + 7] = h;
+}
+
+// Eight bytes or more: in eights, and the last eight again where they are not all new.
+fn put_long(out: &mut [u8], at: usize, data: &[u8], place: usize, size: usize)
+    requires { ⌜ (8 ≤ size) × (at + size ≤ length (now out)) × (place + size ≤ length (now «data»)) ⌝ }
+    ensures { λ _. ⌜ now (out .exit) ≡ sets (now (out .entry)) at (take size (drop place (now («data» .entry)))) ⌝ }
+{
+    let mut i = 0;
+    while 8 < size - i {
+        put_eight(out, at + i, data, place + i);
+        i += 8;
+    }
+    put_eight(out, at + (size - 8), data, place + (size - 8));
+}
+
 // `size` bytes of the data from `place` on.
 fn put_part(out: &mut [u8], at: usize, data: &[u8], place: usize, size: usize)
     requires { ⌜ (at + size ≤ length (now out)) × (place + size ≤ length (now «data»)) ⌝ }
     ensures { λ _. ⌜ now (out .exit) ≡ sets (now (out .entry)) at (take size (drop place (now («data» .entry)))) ⌝ }
 {
+    if 8 <= size {
+        put_long(out, at, data, place, size);
+        return;
+    }
     let mut i = 0;
     while i < size {
         out[at + i] = data[place + i];
@@ -84,18 +125,50 @@ fn put_part(out: &mut [u8], at: usize, data: &[u8], place: usize, size: usize)
     }
 }
 
-// A row's own bytes at `at`, where its children take `size`; the place behind them.
-pub fn put_row(out: &mut [u8], at: usize, data: &[u8], w: Row, size: usize) -> usize
-    requires { ⌜ Inside (now «data») w × (at + length (ownBytes (now «data») w size) ≤ length (now out)) ⌝ }
+// A row's own bytes at `at`, where it has none of the data; only the contract speaks of them.
+fn put_bare(out: &mut [u8], at: usize, data: &[u8], w: Row, size: usize) -> usize
+    requires { ⌜ (hasBytes (kindOf w) ≡ false) × (at + length (ownBytes (now «data») w size) ≤ length (now out)) ⌝ }
+    ensures { λ r. ⌜ r ≡ at + length (ownBytes (now («data» .entry)) w size) ⌝ }
+    ensures { λ _. ⌜ now (out .exit) ≡ sets (now (out .entry)) at (ownBytes (now («data» .entry)) w size) ⌝ }
+{
+    let p = head_of(w, size);
+    put_plan(out, at, p)
+}
+
+// A row's own bytes at `at`, where it has some of the data.
+fn put_with(out: &mut [u8], at: usize, data: &[u8], w: Row, size: usize) -> usize
+    requires { ⌜ (hasBytes (kindOf w) ≡ true) × Inside (now «data») w × (at + length (ownBytes (now «data») w size) ≤ length (now out)) ⌝ }
     ensures { λ r. ⌜ r ≡ at + length (ownBytes (now («data» .entry)) w size) ⌝ }
     ensures { λ _. ⌜ now (out .exit) ≡ sets (now (out .entry)) at (ownBytes (now («data» .entry)) w size) ⌝ }
 {
     let p = head_of(w, size);
     let next = put_plan(out, at, p);
-    if has_bytes(w) {
-        let count = rows::number(w.w1);
-        put_part(out, next, data, rows::number(w.w0), count);
-        return next + count;
+    let count = rows::number(w.w1);
+    put_part(out, next, data, rows::number(w.w0), count);
+    next + count
+}
+
+// A row's own bytes at `at`, where its children take `size`; the place behind them. Each kind has a call of its own, which is compiled for
+// that kind alone: no plan passes through memory.
+pub fn put_row(out: &mut [u8], at: usize, data: &[u8], w: Row, size: usize) -> usize
+    requires { ⌜ Inside (now «data») w × (at + length (ownBytes (now «data») w size) ≤ length (now out)) ⌝ }
+    ensures { λ r. ⌜ r ≡ at + length (ownBytes (now («data» .entry)) w size) ⌝ }
+    ensures { λ _. ⌜ now (out .exit) ≡ sets (now (out .entry)) at (ownBytes (now («data» .entry)) w size) ⌝ }
+{
+    match rules::named(w.kind, w.w2) {
+        Kind::Constant => put_bare(out, at, data, w, size),
+        Kind::Small => put_bare(out, at, data, w, size),
+        Kind::Signed => put_bare(out, at, data, w, size),
+        Kind::Unsigned => put_bare(out, at, data, w, size),
+        Kind::Float => put_with(out, at, data, w, size),
+        Kind::Text => put_with(out, at, data, w, size),
+        Kind::Holds { holder: _ } => put_bare(out, at, data, w, size),
+        Kind::Binary => put_with(out, at, data, w, size),
+        Kind::Char => put_bare(out, at, data, w, size),
+        Kind::Reference => put_bare(out, at, data, w, size),
+        Kind::Declaration => put_bare(out, at, data, w, size),
+        Kind::Whole => put_bare(out, at, data, w, size),
+        Kind::Damaged => put_with(out, at, data, w, size),
+        Kind::Other => put_with(out, at, data, w, size),
     }
-    next
 }

@@ -1,9 +1,10 @@
 -- The steps of the check: a law for each way on and each way out of its loops. Assumes nothing.
 use Prim.Native.Nat.{ℕ, zero, suc, _+_, _-_, _≤_, _<_}
-use mathlib.Core.Bool.{true, false, cond}
+use mathlib.Core.Bool.{Bool, true, false, cond}
 use mathlib.Core.List.{List, [], _∷_}
 use mathlib.Core.Path.{_≡_, refl, sym, ap, _∙_}
 use native.Mathlib.Omega.{arith}
+use native.Mathlib.Nat.{add-zero}
 use native.Mathlib.Numerals.{add-one}
 use borrow.Author.Tests.{ltb-true}
 use lib.Dec.{ltb}
@@ -53,6 +54,16 @@ plain s i r h p =
     let k : i + 1 - i ≡ 1 = omega arith in
     let e = lead-starts (getD s i 0) 0 0 0 (drop (suc i) s) (sym (lead-at 0 (getD s i 0) (omega arith))) in
     found s i (i + 1) r (omega arith) (omega arith) (rw (k, drop-cons s i 0 h) e)
+
+-- n such bytes
+plain-run : (s : List ℕ) (i n : ℕ) → Reached s i → i + n ≤ length s → ((k : ℕ) → k < n → getD s (i + k) 0 < 0x80) → Reached s (i + n)
+plain-run s i zero r h p = rw add-zero r
+plain-run s i (suc n) r h p =
+    let e : i + suc n ≡ i + n + 1 = omega arith in
+    rw e (plain s (i + n) (plain-run s i n r (omega arith) (λ k b. p k (omega arith))) (omega arith) (p n (omega arith)))
+
+pub plain-eight : (s : List ℕ) (i : ℕ) (t : Bool) → Reached s i → 7 < length s - i → t ≡ true → (t ≡ true → (k : ℕ) → k < 8 → getD s (i + k) 0 < 0x80) → Reached s (i + 8)
+plain-eight s i t r h e p = plain-run s i 8 r (omega arith) (p e)
 
 -- two such bytes
 pub plain-two : (s : List ℕ) (i : ℕ) → Reached s i → 1 < length s - i → getD s i 0 < 0x80 → getD s (i + 1) 0 < 0x80 → Reached s (i + 2)

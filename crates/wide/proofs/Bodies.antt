@@ -1,9 +1,9 @@
--- A body of any size, read from its top byte down and written from its low byte up. Assumes nothing.
+-- A body of any size, read from its top byte down and written from its low word up. Assumes nothing.
 use mathlib.Core.Path.{_≡_, _∙_, sym, ap, ap₂, refl}
 use mathlib.Core.Bool.{Bool, true, false, _&&_}
 use mathlib.Core.List.{List, [], _∷_}
 use Prim.Native.Nat.{ℕ, zero, suc, _+_, _-_, _*_, _/_, _%_, _^_, _≤_, _<_}
-use native.Mathlib.Nat.{mul-left-comm, mul-comm, mul-sub, mul-le-mul-right, mul-le-mul-left, pow-le-pow-right, zero-lt-suc}
+use native.Mathlib.Nat.{add-zero, mul-left-comm, mul-comm, mul-sub, mul-le-mul-right, mul-le-mul-left, pow-le-pow-right, zero-lt-suc}
 use native.Mathlib.Omega.{arith}
 use lib.ListN.{length, set, take, drop, getD, length-drop, drop-of-length-le}
 use lib.Seq.{sets, length-take-le, drop-cons, getD-take, getD-drop}
@@ -11,11 +11,11 @@ use lib.Dec.{leb}
 use borrow.Author.Tests.{le-leb, lt-leb}
 use Rattle.wide.specs.declared.wide.Wide.{Wide}
 use Rattle.wide.specs.Number.{number, bytesOf}
-use Rattle.wide.specs.Words.{whole, valueOf, wideOf}
+use Rattle.wide.specs.Words.{whole, words, valueOf, wideOf}
 use Rattle.wide.specs.Body.{extended, negative, bodyValue}
-use Rattle.wide.proofs.Numbers.{either, onto, Bytes, pow-step, pow-pos256, onto-number, onto-zero, bytes-all, bytes-take, bytes-drop}
+use Rattle.wide.proofs.Numbers.{either, onto, Bytes, pow-step, pow-pos256, onto-number, onto-zero, bytes-all, bytes-take, bytes-drop, bytes-low, bytes-split}
 use Rattle.wide.proofs.Wides.{Words, wide-more}
-use Rattle.wide.proofs.Steps.{in-again, value-off}
+use Rattle.wide.proofs.Steps.{in-again}
 
 -- the number lies between what its top byte says
 top-low : (bs : List ℕ) (k : ℕ) → length bs ≡ suc k → getD bs k 0 * 256 ^ k ≤ number bs
@@ -127,20 +127,51 @@ write-start out at size n =
     let q : size - 0 ≡ size = omega arith in
     ap₂ (λ (a k : ℕ). sets out a (bytesOf k n)) p q
 
-pub write-turn : (out t : List ℕ) (at i size b : ℕ) (w r : Wide) → i < size → Words w → b ≡ valueOf w % 256 → r ≡ wideOf (valueOf w / 256)
-    → sets out (at + i) (bytesOf (size - i) (valueOf w)) ≡ t
-    → sets (set out (at + i) b) (at + (i + 1)) (bytesOf (size - (i + 1)) (valueOf r)) ≡ t
-write-turn out t at i size b w r l h eb er e =
-    let k : ℕ = size - (i + 1) in
-    let v : ℕ = valueOf w in
-    let p : at + (i + 1) ≡ suc (at + i) = omega arith in
-    let q : suc k ≡ size - i = omega arith in
-    ap₂ (λ (x y : ℕ). sets (set out (at + i) x) y (bytesOf k (valueOf r))) eb p
-    ∙ ap (λ (x : ℕ). sets (set out (at + i) (v % 256)) (suc (at + i)) (bytesOf k x)) (ap valueOf er ∙ value-off w h)
-    ∙ ap (λ (x : ℕ). sets out (at + i) (bytesOf x v)) q
+-- a word of it
+pub put-one : (out : List ℕ) (at count w : ℕ) → count ≡ 1 → set out at (w % 256) ≡ sets out at (bytesOf count w)
+put-one out at count w e = rw e
+
+pub put-two : (out : List ℕ) (at count w : ℕ) → count ≡ 2 → set (set out at (w % 256)) (at + 1) (w / 256 % 256) ≡ sets out at (bytesOf count w)
+put-two out at count w e = let p : at + 1 ≡ suc at = omega arith in rw (e, p)
+
+pub put-three : (out : List ℕ) (at count w : ℕ) → count ≡ 3
+    → set (set (set out at (w % 256)) (at + 1) (w / 256 % 256)) (at + 2) (w / 256 / 256 % 256) ≡ sets out at (bytesOf count w)
+put-three out at count w e =
+    let p : at + 1 ≡ suc at = omega arith in
+    let q : at + 2 ≡ suc (suc at) = omega arith in
+    rw (e, p, q)
+
+pub put-four : (out : List ℕ) (at count w : ℕ) → count ≤ 4 → (count ≡ 0 → ⊥) → (count ≡ 1 → ⊥) → (count ≡ 2 → ⊥) → (count ≡ 3 → ⊥)
+    → set (set (set (set out at (w % 256)) (at + 1) (w / 256 % 256)) (at + 2) (w / 256 / 256 % 256)) (at + 3) (w / 256 / 256 / 256 % 256)
+    ≡ sets out at (bytesOf count w)
+put-four out at count w l n0 n1 n2 n3 =
+    let e : count ≡ 4 = omega arith in
+    let p : at + 1 ≡ suc at = omega arith in
+    let q : at + 2 ≡ suc (suc at) = omega arith in
+    let r : at + 3 ≡ suc (suc (suc at)) = omega arith in
+    rw (e, p, q, r)
+
+-- the words of what is left
+pub words-off : (w : Wide) → Words w → Words (words (w .w1) (w .w2) (w .w3) 0)
+words-off w h = record { f0 = h .f1; f1 = h .f2; f2 = h .f3; f3 = omega arith }
+
+pub write-turn : (out after t : List ℕ) (at i size : ℕ) (w r : Wide) → 4 < size - i → Words w → after ≡ sets out (at + i) (bytesOf 4 (w .w0))
+    → r ≡ words (w .w1) (w .w2) (w .w3) 0 → sets out (at + i) (bytesOf (size - i) (valueOf w)) ≡ t
+    → sets after (at + (i + 4)) (bytesOf (size - (i + 4)) (valueOf r)) ≡ t
+write-turn out after t at i size w r l h ea er e =
+    let k : ℕ = size - (i + 4) in
+    let y : ℕ = w .w1 + 2 ^ 32 * (w .w2 + 2 ^ 32 * w .w3) in
+    let p : at + (i + 4) ≡ suc (suc (suc (suc (at + i)))) = omega arith in
+    let q : k + 4 ≡ size - i = omega arith in
+    let v : valueOf r ≡ y = ap valueOf er ∙ ap (λ (n : ℕ). w .w1 + 2 ^ 32 * (w .w2 + 2 ^ 32 * n)) (add-zero (w .w3)) in
+    ap₂ (λ (o : List ℕ) (a : ℕ). sets o a (bytesOf k (valueOf r))) ea p
+    ∙ ap (λ (n : ℕ). sets (sets out (at + i) (bytesOf 4 (w .w0))) (suc (suc (suc (suc (at + i))))) (bytesOf k n)) v
+    ∙ ap (sets out (at + i)) (sym (bytes-split 4 k (w .w0) y (h .f0)))
+    ∙ ap (λ (x : ℕ). sets out (at + i) (bytesOf x (valueOf w))) q
     ∙ e
 
-pub write-end : (out t : List ℕ) (at i size n : ℕ) → size ≤ i → sets out (at + i) (bytesOf (size - i) n) ≡ t → out ≡ t
-write-end out t at i size n l e =
-    let z : 0 ≡ size - i = omega arith in
-    ap (λ (k : ℕ). sets out (at + i) (bytesOf k n)) z ∙ e
+pub write-end : (out after t : List ℕ) (at i size : ℕ) (w : Wide) → size - i ≤ 4 → after ≡ sets out (at + i) (bytesOf (size - i) (w .w0))
+    → sets out (at + i) (bytesOf (size - i) (valueOf w)) ≡ t → after ≡ t
+write-end out after t at i size w l ea e =
+    let y : ℕ = w .w1 + 2 ^ 32 * (w .w2 + 2 ^ 32 * w .w3) in
+    ea ∙ ap (sets out (at + i)) (sym (bytes-low (size - i) 4 (w .w0) y l)) ∙ e

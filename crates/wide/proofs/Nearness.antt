@@ -146,23 +146,49 @@ module _ (w : Wide) (h : Words w) (below up : ℕ) (b : below ≤ 256) (u : up �
   abbrev isNear : Bool
   isNear = ltb (behind whole (whole - below) (valueOf w)) (below + up)
 
-  pub near-up : (r : Bool) → r ≡ noneAbove → r ≡ true → ltb (w .w0) up ≡ isNear
+  near-up : (r : Bool) → r ≡ noneAbove → r ≡ true → ltb (w .w0) up ≡ isNear
   near-up r p q =
       let z = above-yes (w .w1) (w .w2) (w .w3) 0 (sym p ∙ q) in
       let v : valueOf w ≡ w .w0 = value-low w (z .0) (z .1) (z .2) in
       same-test (w .w0) up (w .w0 + below) (below + up) (λ l. omega arith) (λ l. omega arith)
       ∙ sym (ap (λ (x : ℕ). ltb x (below + up)) (ap (behind whole (whole - below)) v ∙ behind-up below (w .w0) b (omega (arith, h .f0, word-whole))))
 
-  pub near-below : (r : Bool) → r ≡ onesAbove → r ≡ true → ltb (4294967295 - w .w0) below ≡ isNear
+  near-below : (r : Bool) → r ≡ onesAbove → r ≡ true → ltb (4294967295 - w .w0) below ≡ isNear
   near-below r p q =
       let z = above-yes (w .w1) (w .w2) (w .w3) 4294967295 (sym p ∙ q) in
       top-test (valueOf w) (w .w0) below up (value-ones w (z .0) (z .1) (z .2)) (h .f0) b u
 
-  pub near-none : (q r : Bool) → q ≡ noneAbove → q ≡ false → r ≡ onesAbove → r ≡ false → false ≡ isNear
+  near-none : (q r : Bool) → q ≡ noneAbove → q ≡ false → r ≡ onesAbove → r ≡ false → false ≡ isNear
   near-none q r a c d e =
       let m : 2 ^ 32 ≤ valueOf w = some-above w (sym a ∙ c) in
       let l : valueOf w + 2 ^ 32 < whole = value-less w h (sym d ∙ e) in
       sym (ap (λ (x : ℕ). ltb x (below + up)) (behind-up below (valueOf w) b (omega arith)) ∙ le-ltb (valueOf w + below) (below + up) (omega arith))
+
+  -- an answer that is right whatever stands above the low word
+  decided : (x : Bool) → (noneAbove ≡ true → x ≡ ltb (w .w0) up) → (noneAbove ≡ false → onesAbove ≡ true → x ≡ ltb (4294967295 - w .w0) below)
+      → (noneAbove ≡ false → onesAbove ≡ false → x ≡ false) → x ≡ isNear
+  decided x f g k =
+      bool-case noneAbove
+      (λ p. f p ∙ near-up noneAbove refl p)
+      (λ p. bool-case onesAbove (λ q. g p q ∙ near-below onesAbove refl q) (λ q. k p q ∙ near-none noneAbove onesAbove refl p refl q))
+
+  pub near-low : (r : Bool) → r ≡ noneAbove → w .w0 < up → r ≡ isNear
+  near-low r e l =
+      decided r
+      (λ p. e ∙ p ∙ sym (lt-ltb (w .w0) up l))
+      (λ p q. e ∙ p ∙ sym (le-ltb (4294967295 - w .w0) below (omega arith)))
+      (λ p q. e ∙ p)
+
+  pub near-high : (r : Bool) → r ≡ onesAbove → up ≤ w .w0 → 4294967295 - w .w0 < below → r ≡ isNear
+  near-high r e m l =
+      decided r
+      (λ p. let z = above-yes (w .w1) (w .w2) (w .w3) 0 p in
+      e ∙ sym (none-first (w .w1) (w .w2) (w .w3) 4294967295 (λ k. omega (arith, z .0))) ∙ sym (le-ltb (w .w0) up m))
+      (λ p q. e ∙ q ∙ sym (lt-ltb (4294967295 - w .w0) below l))
+      (λ p q. e ∙ q)
+
+  pub near-far : up ≤ w .w0 → below ≤ 4294967295 - w .w0 → false ≡ isNear
+  near-far m l = decided false (λ p. sym (le-ltb (w .w0) up m)) (λ p q. sym (le-ltb (4294967295 - w .w0) below l)) (λ p q. refl)
 
 -- ---- the words of a number near 0
 

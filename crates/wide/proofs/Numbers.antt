@@ -1,8 +1,8 @@
 -- A number's bytes are its number again, and the bytes of a number are bytes. Assumes nothing.
-use mathlib.Core.Path.{_≡_, ap, refl}
-use mathlib.Core.List.{List, [], _∷_}
+use mathlib.Core.Path.{_≡_, _∙_, ap, ap₂, refl}
+use mathlib.Core.List.{List, [], _∷_, _++_}
 use Prim.Native.Nat.{ℕ, zero, suc, _+_, _*_, _/_, _%_, _^_, _≤_, _<_}
-use native.Mathlib.Nat.{pow-suc, pow-succ', mul-left-comm, one-le-pow, zero-lt-suc, lt-of-not-le}
+use native.Mathlib.Nat.{mul-assoc, pow-suc, pow-succ', mul-left-comm, one-le-pow, zero-lt-suc, lt-of-not-le}
 use native.Mathlib.Decide.{decLe}
 use native.Mathlib.Omega.{arith}
 use lib.ListN.{length, take, drop, getD}
@@ -71,3 +71,31 @@ bytes-drop (suc k) (b ∷ l) h = bytes-drop k l (h .1)
 pub bytes-all : (bs : List ℕ) → ((i : ℕ) → getD bs i 0 < 256) → Bytes bs
 bytes-all [] h = tt
 bytes-all (b ∷ bs) h = (h 0, bytes-all bs (λ i. h (suc i)))
+
+-- ---- the bytes of a number x below another: nothing above them changes the low ones
+
+low-byte : (x z : ℕ) → (x + 256 * z) % 256 ≡ x % 256
+low-byte x z = omega arith
+
+low-off : (x z : ℕ) → (x + 256 * z) / 256 ≡ x / 256 + z
+low-off x z = omega arith
+
+higher : (j x y : ℕ) → x + 256 ^ suc j * y ≡ x + 256 * (256 ^ j * y)
+higher j x y = ap (λ (p : ℕ). x + p * y) (pow-step j) ∙ ap (λ (n : ℕ). x + n) (mul-assoc 256 (256 ^ j) y)
+
+pub bytes-low : (k j x y : ℕ) → k ≤ j → bytesOf k (x + 256 ^ j * y) ≡ bytesOf k x
+bytes-low zero j x y h = refl
+bytes-low (suc k) zero x y h = absurd (omega arith)
+bytes-low (suc k) (suc j) x y h =
+    ap (bytesOf (suc k)) (higher j x y)
+    ∙ ap₂ _∷_ (low-byte x (256 ^ j * y)) (ap (bytesOf k) (low-off x (256 ^ j * y)) ∙ bytes-low k j (x / 256) y (omega arith))
+
+pub bytes-split : (j m x y : ℕ) → x < 256 ^ j → bytesOf (m + j) (x + 256 ^ j * y) ≡ bytesOf j x ++ bytesOf m y
+bytes-split zero m x y h =
+    let k : m + 0 ≡ m = omega arith in
+    let n : x + 256 ^ 0 * y ≡ y = omega arith in
+    ap₂ bytesOf k n
+bytes-split (suc j) m x y h =
+    let k : m + suc j ≡ suc (m + j) = omega arith in
+    ap₂ bytesOf k (higher j x y)
+    ∙ ap₂ _∷_ (low-byte x (256 ^ j * y)) (ap (bytesOf (m + j)) (low-off x (256 ^ j * y)) ∙ bytes-split j m (x / 256) y (omega (arith, pow-step j)))

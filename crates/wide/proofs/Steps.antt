@@ -1,7 +1,9 @@
--- The words of a number with a byte more at the low end, with its low byte off, doubled, and complemented. Assumes nothing.
+-- The words of a number with a byte more at the low end, doubled, and complemented. Assumes nothing.
 use mathlib.Core.Path.{_≡_, _∙_, sym, ap, refl, subst}
+use mathlib.Core.Bool.{Bool, true, false, cond}
 use Prim.Native.Nat.{ℕ, _+_, _-_, _*_, _/_, _%_, _^_, _≤_, _<_}
 use native.Mathlib.Omega.{arith}
+use lib.Dec.{ltb}
 use Rattle.wide.specs.declared.wide.Wide.{Wide}
 use Rattle.wide.specs.Words.{whole, valueOf, wideOf, words}
 use Rattle.wide.proofs.Wides.{Words, wide-digits, words-wide, wide-value, value-lt, value-wide, whole-words, half, half-words, carry-lt}
@@ -37,45 +39,6 @@ shifted-in w b h k = ap (λ (v : Wide). shifted v b) (sym (wide-value w h)) ∙ 
 -- of a number's words no more is known than the words
 pub in-again : (n b : ℕ) → b < 256 → wideOf (b + 256 * valueOf (wideOf n)) ≡ wideOf (b + 256 * n)
 in-again n b h = sym (shifted-in (wideOf n) b (words-wide n) h) ∙ wide-in n b h
-
--- ---- the low byte off
-
-abbrev pub shifted-off : Wide → Wide
-shifted-off w =
-    words (w .w1 % 256 * 2 ^ 24 + w .w0 / 256) (w .w2 % 256 * 2 ^ 24 + w .w1 / 256) (w .w3 % 256 * 2 ^ 24 + w .w2 / 256) (w .w3 / 256)
-
-lo-off : (w m : ℕ) → w < 2 ^ 32 → (w + 2 ^ 32 * m) / 256 % 2 ^ 32 ≡ m % 256 * 2 ^ 24 + w / 256
-lo-off w m h = omega arith
-
-hi-off : (w m : ℕ) → w < 2 ^ 32 → (w + 2 ^ 32 * m) / 256 / 2 ^ 32 ≡ m / 256
-hi-off w m h = omega arith
-
-byte-of : (w m : ℕ) → (w + 2 ^ 32 * m) % 256 ≡ w % 256
-byte-of w m = omega arith
-
-off-word : (w m a : ℕ) → w < 2 ^ 32 → m % 256 ≡ a → (w + 2 ^ 32 * m) / 256 % 2 ^ 32 ≡ a * 2 ^ 24 + w / 256
-off-word w m a h e = lo-off w m h ∙ ap (λ (x : ℕ). x * 2 ^ 24 + w / 256) e
-
-pub shifted-out : (w : Wide) → Words w → shifted-off w ≡ wideOf (valueOf w / 256)
-shifted-out w h =
-    let m3 : ℕ = w .w3 in
-    let m2 : ℕ = w .w2 + 2 ^ 32 * m3 in
-    let m1 : ℕ = w .w1 + 2 ^ 32 * m2 in
-    sym (wide-digits (valueOf w / 256) (m1 / 256) (m2 / 256) (m3 / 256)
-    (off-word (w .w0) m1 _ (h .f0) (byte-of (w .w1) m2)) (hi-off (w .w0) m1 (h .f0))
-    (off-word (w .w1) m2 _ (h .f1) (byte-of (w .w2) m3)) (hi-off (w .w1) m2 (h .f1))
-    (off-word (w .w2) m3 _ (h .f2) refl) (hi-off (w .w2) m3 (h .f2))
-    (top m3 (h .f3)))
-  where
-    top : (m : ℕ) → m < 2 ^ 32 → m / 256 % 2 ^ 32 ≡ m / 256
-    top m k = omega arith
-
-off-lt : (n : ℕ) → n < whole → n / 256 < whole
-off-lt n h = omega arith
-
--- the number of what is left
-pub value-off : (w : Wide) → Words w → valueOf (wideOf (valueOf w / 256)) ≡ valueOf w / 256
-value-off w h = value-wide (valueOf w / 256) (off-lt (valueOf w) (value-lt w h))
 
 -- ---- twice
 
@@ -139,8 +102,24 @@ value-turned w h =
     ∙ ap (λ (x : ℕ). 4294967295 - w .w0 + 2 ^ 32 * x) (turn-word (w .w1) m2 (2 ^ 32 * 2 ^ 32) (h .f1) l2)
     ∙ ap (λ (x : ℕ). 4294967295 - w .w0 + 2 ^ 32 * (4294967295 - w .w1 + 2 ^ 32 * x)) (turn-word (w .w2) m3 (2 ^ 32) (h .f2) (h .f3))
 
-pub complemented : (w : Wide) → Words w → turned w ≡ wideOf (whole - 1 - valueOf w)
+complemented : (w : Wide) → Words w → turned w ≡ wideOf (whole - 1 - valueOf w)
 complemented w h = sym (ap wideOf (value-turned w h) ∙ wide-value (turned w) (words-turned w))
+
+-- word by word
+abbrev turnedWord : ℕ → ℕ → ℕ
+turnedWord x top = cond (ltb top 2147483648) x (4294967295 - x)
+
+pub folded : (w : Wide) → Words w → (a b c d : ℕ) → a ≡ turnedWord (w .w0) (w .w3) → b ≡ turnedWord (w .w1) (w .w3) → c ≡ turnedWord (w .w2) (w .w3)
+    → d ≡ turnedWord (w .w3) (w .w3) → words a b c d ≡ cond (ltb (w .w3) 2147483648) w (wideOf (whole - 1 - valueOf w))
+folded w h a b c d ea eb ec ed = all (ltb (w .w3) 2147483648) a b c d ea eb ec ed
+  where
+    same : {a b c d a₁ b₁ c₁ d₁ : ℕ} → a ≡ a₁ → b ≡ b₁ → c ≡ c₁ → d ≡ d₁ → words a b c d ≡ words a₁ b₁ c₁ d₁
+    same p q r s = cc
+
+    all : (t : Bool) (a b c d : ℕ) → a ≡ cond t (w .w0) (4294967295 - w .w0) → b ≡ cond t (w .w1) (4294967295 - w .w1)
+        → c ≡ cond t (w .w2) (4294967295 - w .w2) → d ≡ cond t (w .w3) (4294967295 - w .w3) → words a b c d ≡ cond t w (wideOf (whole - 1 - valueOf w))
+    all true a b c d ea eb ec ed = same ea eb ec ed
+    all false a b c d ea eb ec ed = same ea eb ec ed ∙ complemented w h
 
 -- ---- the highest bit
 

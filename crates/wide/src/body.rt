@@ -34,16 +34,40 @@ pub fn read_body(s: &[u8], at: usize, size: usize, signed: bool) -> Wide
     w
 }
 
-// The low `size` bytes of `w` at `at`.
+// The low `count` bytes of a word.
+fn put_word(out: &mut [u8], at: usize, count: usize, w: u32)
+    requires { ⌜ (count ≤ 4) × (at + count ≤ length (now out)) ⌝ }
+    ensures { λ _. ⌜ now (out .exit) ≡ sets (now (out .entry)) at (bytesOf count w) ⌝ }
+{
+    if count == 0 {
+        return;
+    }
+    out[at] = (w % 256) as u8;
+    if count == 1 {
+        return;
+    }
+    out[at + 1] = (w / 256 % 256) as u8;
+    if count == 2 {
+        return;
+    }
+    out[at + 2] = (w / 256 / 256 % 256) as u8;
+    if count == 3 {
+        return;
+    }
+    out[at + 3] = (w / 256 / 256 / 256 % 256) as u8;
+}
+
+// The low `size` bytes of `w` at `at`, word by word.
 pub fn write_body(out: &mut [u8], at: usize, size: usize, w: Wide)
     requires { ⌜ at + size ≤ length (now out) ⌝ }
     ensures { λ _. ⌜ now (out .exit) ≡ sets (now (out .entry)) at (bytesOf size (valueOf w)) ⌝ }
 {
     let mut rest = w;
     let mut i = 0;
-    while i < size {
-        out[at + i] = step::low(rest);
-        rest = step::shift_out(rest);
-        i += 1;
+    while 4 < size - i {
+        put_word(out, at + i, 4, rest.w0);
+        rest = step::word_off(rest);
+        i += 4;
     }
+    put_word(out, at + i, size - i, rest.w0);
 }

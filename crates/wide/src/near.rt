@@ -20,16 +20,17 @@ fn above(w: Wide, word: u32) -> bool
     w.w3 == word
 }
 
-// Whether the number is one of the last `below` before 0 or of the first `up` from 0 on.
+// Whether the number is one of the last `below` before 0 or of the first `up` from 0 on. The low word is asked first: it alone tells nearly
+// every number that is not.
 pub fn is_near(w: Wide, below: u32, up: u32) -> bool
     requires { ⌜ (below ≤ 256) × (up ≤ 256) ⌝ }
     ensures { λ r. ⌜ r ≡ ltb (behind whole (whole - below) (valueOf w)) (below + up) ⌝ }
 {
-    if above(w, 0) {
-        return w.w0 < up;
+    if w.w0 < up {
+        return above(w, 0);
     }
-    if above(w, 4294967295) {
-        return 4294967295 - w.w0 < below;
+    if 4294967295 - w.w0 < below {
+        return above(w, 4294967295);
     }
     false
 }

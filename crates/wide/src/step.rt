@@ -1,7 +1,9 @@
 // Steps on four words.
 ghost use mathlib.Core.Path.{_≡_};
+ghost use mathlib.Core.Bool.{cond};
+ghost use lib.Dec.{ltb};
 ghost use Prim.Native.Nat.{_+_, _-_, _*_, _/_, _%_};
-ghost use Rattle.wide.specs.Words.{whole, valueOf, wideOf};
+ghost use Rattle.wide.specs.Words.{whole, words, valueOf, wideOf};
 ghost use Rattle.wide.specs.Body.{extended};
 use crate::wide::Wide;
 
@@ -17,15 +19,15 @@ pub fn shift_in(w: Wide, b: u8) -> Wide
     }
 }
 
-// The lowest byte off.
-pub fn shift_out(w: Wide) -> Wide
-    ensures { λ r. ⌜ r ≡ wideOf (valueOf w / 256) ⌝ }
+// The lowest word off.
+pub fn word_off(w: Wide) -> Wide
+    ensures { λ r. ⌜ r ≡ words (w .w1) (w .w2) (w .w3) 0 ⌝ }
 {
     Wide {
-        w0: w.w1 % 256 * 16777216 + w.w0 / 256,
-        w1: w.w2 % 256 * 16777216 + w.w1 / 256,
-        w2: w.w3 % 256 * 16777216 + w.w2 / 256,
-        w3: w.w3 / 256,
+        w0: w.w1,
+        w1: w.w2,
+        w2: w.w3,
+        w3: 0,
     }
 }
 
@@ -69,14 +71,24 @@ pub fn doubled(w: Wide) -> Wide
     }
 }
 
-// Every bit turned.
-pub fn complement(w: Wide) -> Wide
-    ensures { λ r. ⌜ r ≡ wideOf (whole - 1 - valueOf w) ⌝ }
+// A word, every bit of it turned where `top` has its highest bit.
+fn turned(x: u32, top: u32) -> u32
+    ensures { λ r. ⌜ r ≡ cond (ltb top 2147483648) x (4294967295 - x) ⌝ }
+{
+    if top < 2147483648 {
+        return x;
+    }
+    4294967295 - x
+}
+
+// The number, or its complement where its highest bit is set: word by word, so that no branch depends on the sign.
+pub fn folded(w: Wide) -> Wide
+    ensures { λ r. ⌜ r ≡ cond (ltb (w .w3) 2147483648) w (wideOf (whole - 1 - valueOf w)) ⌝ }
 {
     Wide {
-        w0: 4294967295 - w.w0,
-        w1: 4294967295 - w.w1,
-        w2: 4294967295 - w.w2,
-        w3: 4294967295 - w.w3,
+        w0: turned(w.w0, w.w3),
+        w1: turned(w.w1, w.w3),
+        w2: turned(w.w2, w.w3),
+        w3: turned(w.w3, w.w3),
     }
 }

@@ -1,4 +1,4 @@
-// The bytes of rows, counted by recursion over a row's children.
+// The bytes of rows. Only a foreign document asks for those of its children apart, since it has their number before them.
 ghost use Prim.Native.Nat.{_+_};
 ghost use Rattle.writer.specs.Spells.{Spelt, Long, Told};
 use rows::Row;
@@ -12,6 +12,11 @@ pub fn size_children(table: &[u32], row: usize, stop: usize) -> usize
     let mut sum = 0;
     while here < stop {
         let w = rows::row_at(table, here);
+        if w.kind != Row::FOREIGN {
+            sum += spell::row_size(w, 0);
+            here += 1;
+            continue;
+        }
         let end = rows::number(w.end);
         let body = size_children(table, here + 1, end);
         sum += spell::row_size(w, body) + body;

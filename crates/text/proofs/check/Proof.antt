@@ -2,10 +2,10 @@
 -- answer for the whole (Reached); before each continuation byte, the sequence stands exactly when what is left of it fits (Passing). Assumes nothing.
 use Prim.Native.Nat.{_-_, _≤_}
 use borrow.Author.Needs.{needs}
-use borrow.Author.Tests.{leb-false, ltb-false}
+use borrow.Author.Tests.{leb-false, ltb-false, not-false}
 use lib.ListN.{length}
 use mathlib.Core.Logic.{⊎-elim}
-use Rattle.text.proofs.Steps.{Reached, Passing, start, at-end, plain, plain-two, no-lead, lead, turn, whole, cut, too-low, too-high}
+use Rattle.text.proofs.Steps.{Reached, Passing, start, at-end, plain, plain-two, plain-eight, no-lead, lead, turn, whole, cut, too-low, too-high}
 use Rattle.text.proofs.check.Statement.{statement}
 use Rattle.text.proofs.check.Tie as tie
 
@@ -16,10 +16,16 @@ abbrev μ-loop : tie.MeasureT-loop
 μ-loop s first₀ first = length s - first
 
 abbrev Inv-loop2 : tie.InvT-loop2
-Inv-loop2 s first b left₀ low₀ high₀ at₀ left low high at = Passing s first left low high at
+Inv-loop2 s first₀ first = (first₀ ≤ first) × Reached s first
 
 abbrev μ-loop2 : tie.MeasureT-loop2
-μ-loop2 s first b left₀ low₀ high₀ at₀ left low high at = left
+μ-loop2 s first₀ first = length s - first
+
+abbrev Inv-loop3 : tie.InvT-loop3
+Inv-loop3 s first b left₀ low₀ high₀ at₀ left low high at = Passing s first left low high at
+
+abbrev μ-loop3 : tie.MeasureT-loop3
+μ-loop3 s first b left₀ low₀ high₀ at₀ left low high at = left
 
 abbrev Inv-sequences : tie.InvT-sequences
 Inv-sequences s first₀ first = Reached s first
@@ -35,9 +41,17 @@ check-spec =
     μ-loop
     Inv-loop2
     μ-loop2
+    Inv-loop3
+    μ-loop3
     Inv-sequences
     μ-sequences
     (λ c. search start)
+    (λ c. search needs)
+    (λ c. search needs)
+    (λ c κs. search needs)
+    (λ c. search needs)
+    (λ c. search needs)
+    (λ c. search (plain-eight, c .before .is-plain .ensures, not-false, needs))
     (λ c. search needs)
     (λ c. search needs)
     (λ c. search needs)
@@ -64,5 +78,7 @@ check-spec =
     (λ c. search needs)
     (λ c. search whole)
     (λ c. search no-lead)
-    (λ c. search (cut, c .before .before .before .before .before .before .before .before .before .before .before .loop .inv .1))
-    (λ c. ⊎-elim (λ w. search too-low) (λ w. search too-high) (c .if6 .came)))
+    (λ c. search (cut, c .before .before .before .before .before .before .before .before .before .before .before .loop2 .inv .1))
+    (λ c.
+    let r = c .before .before .before .before .before .before .before .before .before .before .before .before .before .loop2 .inv .1 in
+    ⊎-elim (λ w. search (too-low, r)) (λ w. search (too-high, r)) (c .if7 .came)))

@@ -1,4 +1,4 @@
--- `spell::put::put_part` meets its contract: what is left to lay completes the part. Assumes nothing.
+-- `spell::put::put_part` meets its contract: what is left to lay completes the part; a long one is laid in eights. Assumes nothing.
 use mathlib.Core.Path.{_≡_, refl}
 use Prim.Native.Nat.{_+_, _-_, _≤_}
 use native.Mathlib.Omega.{arith}
@@ -18,12 +18,12 @@ abbrev μ-loop : tie.MeasureT-loop
 
 loop-holds : tie.Need-loop-holds Inv-loop μ-loop
 loop-holds c =
-    let a = c .args in
+    let a = c .before .before .before .args in
     (search needs, search needs, part-start (a .out .now) (a .«data» .now) (a .at) (a .place) (a .size))
 
 loop-again : tie.Need-loop-again Inv-loop μ-loop
 loop-again c =
-    let a = c .before .before .before .args in
+    let a = c .before .before .before .before .before .before .args in
     let l = c .before .before .loop in (
       search needs,
       simp length-set (search needs),
@@ -36,6 +36,9 @@ put-part-spec =
     (tie.spec
     Inv-loop
     μ-loop
+    (λ c κs. (search needs, search needs, search needs))
+    (λ c. search needs)
+    (λ c. search needs)
     loop-holds
     (λ c. search needs)
     (λ c. search needs)
