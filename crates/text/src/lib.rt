@@ -21,9 +21,9 @@ fn four(a: u8, b: u8, c: u8, d: u8) -> u64
     a as u64 + 256 * (b as u64 + 256 * (c as u64 + 256 * d as u64))
 }
 
-// Whether none of the four low bytes has its top bit.
+// Whether none of the eight bytes of a number has its top bit.
 fn has_no_top(w: u64) -> bool
-    ensures { λ r. ⌜ r ≡ (eqb (w / 128 % 2) 0 && (eqb (w / 32768 % 2) 0 && (eqb (w / 8388608 % 2) 0 && eqb (w / 2147483648 % 2) 0))) ⌝ }
+    ensures { λ r. ⌜ r ≡ (eqb (w / 128 % 2) 0 && (eqb (w / 32768 % 2) 0 && (eqb (w / 8388608 % 2) 0 && (eqb (w / 2147483648 % 2) 0 && (eqb (w / 549755813888 % 2) 0 && (eqb (w / 140737488355328 % 2) 0 && (eqb (w / 36028797018963968 % 2) 0 && eqb (w / 9223372036854775808 % 2) 0))))))) ⌝ }
 {
     if w / 128 % 2 != 0 {
         return false;
@@ -34,7 +34,19 @@ fn has_no_top(w: u64) -> bool
     if w / 8388608 % 2 != 0 {
         return false;
     }
-    w / 2147483648 % 2 == 0
+    if w / 2147483648 % 2 != 0 {
+        return false;
+    }
+    if w / 549755813888 % 2 != 0 {
+        return false;
+    }
+    if w / 140737488355328 % 2 != 0 {
+        return false;
+    }
+    if w / 36028797018963968 % 2 != 0 {
+        return false;
+    }
+    w / 9223372036854775808 % 2 == 0
 }
 
 // Whether the eight bytes from `at` on are plain. As one number they take one load and one test.
@@ -45,10 +57,7 @@ fn is_plain(s: &[u8], at: usize) -> bool
     let low = four(s[at], s[at + 1], s[at + 2], s[at + 3]);
     let high = four(s[at + 4], s[at + 5], s[at + 6], s[at + 7]);
     let w = low + 4294967296 * high;
-    if !has_no_top(w) {
-        return false;
-    }
-    has_no_top(w / 4294967296)
+    has_no_top(w)
 }
 
 // The outer loop goes over sequences. Within it two loops pass plain bytes in eights and in twos, for speed alone, and the last goes

@@ -8,4 +8,13 @@ ruleset tests = (eq-eqb, ne-eqb)
 
 pub has-no-top-spec : {M : Type 1} → statement M
 has-no-top-spec =
-    tie.close (tie.spec (λ c. search (needs, tests)) (λ c. search (needs, tests)) (λ c. search (needs, tests)) (λ c. search (needs, tests)))
+    tie.close
+    (tie.spec
+    (λ c. search (needs, tests))
+    (λ c. search (needs, tests))
+    (λ c. search (needs, tests))
+    (λ c. search (needs, tests))
+    (λ c. search (needs, tests))
+    (λ c. search (needs, tests))
+    (λ c. search (needs, tests))
+    (λ c. search (needs, tests)))
