@@ -2,22 +2,22 @@
 use mathlib.Core.Path.{_≡_, refl, sym, ap, ap₂, _∙_, subst}
 use mathlib.Core.Bool.{Bool, true, false}
 use mathlib.Core.List.{List, []}
-use Prim.Native.Nat.{ℕ, zero, suc, _+_, _-_, _%_, _≤_, _<_}
+use Prim.Native.Nat.{ℕ, zero, suc, _+_, _-_, _≤_, _<_}
 use native.Mathlib.Omega.{arith}
 use native.Mathlib.Nat.{sub-zero, add-zero, zero-add}
-use lib.ListN.{length, getD}
-use borrow.Author.Tests.{lt-ltb, le-ltb, eq-eqb, ne-eqb}
+use lib.ListN.{length}
+use borrow.Author.Tests.{lt-ltb, le-ltb}
 use Rattle.rows.specs.declared.row.Row.{Row}
 use Rattle.rows.specs.Table.{rowAt, lent, limit}
-use Rattle.registry.specs.Registry.{walk, chain, firstIn, Based, baseOf}
-use Rattle.registry.proofs.Walks.{based-of, based-plain, chain-at, first-base, first-plain, length-chain, below-none, below-fewer, walk-start, chain-grown, walk-grown, below-grown}
+use Rattle.registry.specs.Registry.{chain, firstIn, Based, baseOf}
+use Rattle.registry.proofs.Walks.{based-plain, based-rows, first-base, first-plain, length-chain, below-none, below-fewer, walk-start, chain-grown, walk-grown, below-grown}
 use Rattle.format.specs.declared.head.Holder.{Holder}
 use Rattle.format.specs.declared.head.Children.{Children}
 use Rattle.format.specs.declared.head.Children.the-variants.{Plain, Keyed, Growing}
 use Rattle.format.specs.Tree.{Tree, Trees, many, size, sizes}
 use Rattle.format.specs.Value.{childCount, childrenOf, inForce, inForeign, value, whole, isKey}
 use Rattle.format.specs.Layout.{isEntry, grown, entries}
-use Rattle.format.proofs.Layouts.{no-entry, around-force, entries-even}
+use Rattle.format.proofs.Layouts.{no-entry, around-force, entries-each}
 use Rattle.rules.specs.declared.shape.Shape.{Shape}
 use Rattle.rules.specs.declared.shape.Shape.the-variants.{Bad, Leaf, Refer, Hold, Declare, Whole, Damaged}
 use Rattle.rules.specs.Shape.{shapeOf}
@@ -347,14 +347,6 @@ module _ (d : ℕ) (table : List ℕ) (n : ℕ) (s : List ℕ) (row count : ℕ)
   unfolding chain
   registry-of e h = sym (ap (chain table row) (zero-add count)) ∙ ran e h .2 .registry
 
-  -- as many rows as entries: each has one
-  even : (e : ℕ) → g ≡ Up e → e - row ≡ count → (i : ℕ) → i < count → walk table row i ≡ row + i
-  even e h q i l =
-      let z : length {A = ℕ} [] + i ≡ i = omega arith in
-      let t = ran e h in
-      sym (chain-at table row count i l) ∙ ap (λ (r : List ℕ). getD r i 0) (registry-of e h)
-      ∙ (rw z at (entries-even (t .0) row [] i (omega (arith, t .2 .past, t .2 .number)) (omega (arith, t .2 .number))))
-
   pub own-under : (e : ℕ) → g ≡ Up e → row ≤ e
   own-under e h = omega (arith, ran e h .2 .past)
 
@@ -366,7 +358,9 @@ module _ (d : ℕ) (table : List ℕ) (n : ℕ) (s : List ℕ) (row count : ℕ)
     own-asks = rw first-inner (subst (λ (x : ℕ). Safe table n row x e) (zero-add count) (ran e h .2 .safe))
 
     pub own-based : Based table inner count
-    own-based = rw b (based-of table row e count (omega arith) (even e h))
+    own-based =
+        let t = ran e h in
+        rw b (based-rows table row e count (entries (t .0) row []) (omega arith) (registry-of e h) (entries-each (t .0) row e count (t .2 .number) (t .2 .past)))
 
   pub declared-not : g ≡ Not → Not ≡ grownOf (declared (grow d table n s) count row Q)
   declared-not h = go Q (sym there ∙ h)

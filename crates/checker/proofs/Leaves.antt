@@ -10,8 +10,8 @@ use borrow.Author.Tests.{lt-ltb, le-ltb, eq-eqb, ne-eqb}
 use Rattle.rows.specs.declared.row.Row.{Row}
 use Rattle.rows.specs.Table.{rowAt}
 use Rattle.rows.specs.Kinds.{kindKey}
-use Rattle.registry.specs.Registry.{walk, chain, Below, Based}
-use Rattle.registry.proofs.Walks.{based-fewer, below-fewer, length-chain, chain-at}
+use Rattle.registry.specs.Registry.{walk, chain}
+use Rattle.registry.proofs.Walks.{length-chain, chain-at}
 use Rattle.format.specs.declared.refusal.Refusal.{Refusal}
 use Rattle.format.specs.declared.refusal.Refusal.the-variants as why
 use Rattle.format.specs.Value.{Reading, right, wrong, inForeign, value, whole}
@@ -67,12 +67,6 @@ unfolding growKey
 key-out table n s row h = rw (le-ltb row n h)
 
 -- ---- a reference
-
-pub number-below : (table : List ℕ) (first k n w row : ℕ) → Below table first k row → n ≡ w → n < k → Below table first n row
-number-below table first k n w row b e l = below-fewer table first k n row row b (omega arith) (omega arith)
-
-pub number-based : (table : List ℕ) (base k n w : ℕ) → Based table base k → n ≡ w → n < k → Based table base (n + 1)
-number-based table base k n w b e l = based-fewer table base k (n + 1) b (omega arith)
 
 module _ (table : List ℕ) (first k row : ℕ) (w : Row) (number : ℕ) (is : number ≡ w .w0) where
   A : Bool

@@ -1,7 +1,7 @@
 -- Writing and reading back, by what the writer answers. Assumes nothing.
-use mathlib.Core.Path.{_≡_, refl, sym, ap, ap₂, _∙_, subst}
+use mathlib.Core.Path.{_≡_, refl, sym, ap, _∙_, subst}
 use mathlib.Core.Bool.{Bool, true, false, cond}
-use mathlib.Core.List.{List, [], _++_}
+use mathlib.Core.List.{List}
 use Prim.Native.Nat.{ℕ, _^_, _≤_, _<_}
 use native.Mathlib.Omega.{arith}
 use lib.ListN.{length, getD, take, drop}
@@ -9,9 +9,8 @@ use lib.Seq.{sets, take-at}
 use lib.Dec.{leb}
 use borrow.Author.Tests.{le-leb, leb-true}
 use Rattle.lists.proofs.Sets.{sets-front}
-use Rattle.rows.specs.Table.{lent, limit}
+use Rattle.rows.specs.Table.{limit}
 use Rattle.format.specs.declared.answer.Answer.{Answer}
-use Rattle.format.specs.declared.answer.Answer.the-variants.{Accepted}
 use Rattle.format.specs.Answer.{answer, tableAfter}
 use Rattle.rules.specs.Grow.{rulesHold}
 use Rattle.writer.specs.declared.written.Written.{Written}

@@ -1,9 +1,9 @@
 -- The three demands, each theorem under its words. An auditor reads this file, and the definitions that it names; the promises of the public
 -- functions (docs/PROMISES.md) say that the code does what these definitions say, on every input and to the end. Assumes nothing.
-use mathlib.Core.Path.{_≡_, refl, sym, ap, _∙_, subst}
-use mathlib.Core.Bool.{Bool, true, false, cond, _&&_}
+use mathlib.Core.Path.{_≡_, refl, ap, _∙_}
+use mathlib.Core.Bool.{Bool, true, false, cond}
 use mathlib.Core.List.{List, [], map}
-use Prim.Native.Nat.{ℕ, suc, _+_, _^_, _≤_, _<_}
+use Prim.Native.Nat.{ℕ, _+_, _^_, _≤_, _<_}
 use native.Mathlib.Omega.{arith}
 use lib.ListN.{length, getD, replicate}
 use lib.Seq.{sets}
@@ -13,9 +13,7 @@ use Rattle.lists.specs.Zeroed.{zeroed}
 use Rattle.lists.proofs.Zeros.{zeroed-all}
 use Rattle.wide.proofs.Numbers.{Bytes}
 use Rattle.rows.specs.Table.{rowAt, lent, limit}
-use Rattle.format.specs.declared.refusal.Refusal.{Refusal}
-use Rattle.format.specs.declared.answer.Answer.{Answer}
-use Rattle.format.specs.declared.answer.Answer.the-variants.{Accepted, TooLong, Refused, Full}
+use Rattle.format.specs.declared.answer.Answer.the-variants.{Accepted, TooLong, Full}
 use Rattle.format.specs.Tree.{Tree, size}
 use Rattle.format.specs.Value.{Reading, right, wrong, document}
 use Rattle.format.specs.Layout.{layout}

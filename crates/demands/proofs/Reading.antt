@@ -1,23 +1,22 @@
 -- A document that was written reads back, and no document that is read as it says is shorter: over tables. Assumes nothing.
-use mathlib.Core.Path.{_≡_, refl, sym, ap, ap₂, _∙_, subst}
-use mathlib.Core.Bool.{Bool, true, false, cond}
-use mathlib.Core.List.{List, [], _++_}
-use Prim.Native.Nat.{ℕ, suc, _+_, _*_, _^_, _≤_, _<_}
+use mathlib.Core.Path.{_≡_, sym, ap, _∙_, subst}
+use mathlib.Core.Bool.{true}
+use mathlib.Core.List.{List, []}
+use Prim.Native.Nat.{ℕ, suc, _*_, _^_, _≤_, _<_}
 use native.Mathlib.Omega.{arith}
 use lib.ListN.{length, getD, drop}
-use lib.Dec.{leb}
 use borrow.Author.Tests.{le-leb}
 use Rattle.wide.proofs.Numbers.{Bytes}
 use Rattle.rows.specs.Table.{wordsPerRow, lent, limit}
 use Rattle.format.specs.declared.answer.Answer.the-variants.{Accepted}
-use Rattle.format.specs.Tree.{Tree, leaf, refer, hold, declare, Trees, none, more, size, sizes}
+use Rattle.format.specs.Tree.{Tree, size}
 use Rattle.format.specs.Value.{document, right}
-use Rattle.format.specs.Answer.{answer, answerFor, tableAfter}
+use Rattle.format.specs.Answer.{answer, tableAfter}
 use Rattle.format.proofs.Values.{Worded}
 use Rattle.rules.specs.Grow.{rulesHold}
 use Rattle.rules.specs.Fine.{Stands}
 use Rattle.rules.proofs.Exact.{yes-stands, laid-out, stands-grows, stands-yes, accepted, read-stands}
-use Rattle.encode.specs.Encode.{encode, placed, placeds}
+use Rattle.encode.specs.Encode.{encode, placed}
 use Rattle.encode.specs.Said.{said}
 use Rattle.encode.proofs.Alike as written
 use Rattle.encode.proofs.Shortest as shortest

@@ -5,7 +5,7 @@ use mathlib.Core.Bool.{Bool, true, false, cond}
 use mathlib.Core.List.{List, [], _∷_, _++_, append-assoc}
 use Prim.Native.Nat.{ℕ, _+_, _*_, _≤_, _<_}
 use native.Mathlib.Omega.{arith}
-use lib.ListN.{length, getD, take, drop}
+use lib.ListN.{length, getD, drop}
 use Rattle.wide.proofs.Numbers.{either}
 use Rattle.rows.specs.declared.row.Row.{Row}
 use Rattle.rows.specs.Table.{wordsPerRow, wordsOf, rowAt}
@@ -19,7 +19,7 @@ use Rattle.rules.proofs.Regrow.{behind}
 use Rattle.wide.specs.Family.{form}
 use Rattle.wide.specs.Members.{declarationCount}
 use Rattle.encode.specs.Encode.{headFor, hasBytes, encode, encodes, placed, placeds}
-use Rattle.encode.specs.Said.{Said, Saids, saidLeaf, said, saids}
+use Rattle.encode.specs.Said.{saidLeaf, said, saids}
 use Rattle.demands.specs.Alike.{SameRow}
 
 -- ---- new places, the same number of rows

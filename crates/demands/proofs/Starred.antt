@@ -1,7 +1,6 @@
 -- The starred cases hold, read and written again, by computation: one list and one statement. Assumes nothing.
-use Prim.Native.Nat.{ℕ}
 use mathlib.Core.Path.{_≡_, refl}
-use mathlib.Core.List.{List, map}
+use mathlib.Core.List.{map}
 use Rattle.lists.specs.Zeroed.{zeroed}
 use Rattle.wide.specs.Words.{whole, wideOf}
 use Rattle.wide.specs.Body.{bodyValue, fits as holds, rank}

@@ -1,5 +1,5 @@
 -- The tree of a table of 32-bit numbers has 32-bit words, and counts within the limit. By induction on the tree. Assumes nothing.
-use mathlib.Core.Path.{_≡_, refl, sym, ap, _∙_, subst}
+use mathlib.Core.Path.{_≡_, refl, ap, _∙_, subst}
 use mathlib.Core.Bool.{Bool, true, false}
 use mathlib.Core.List.{List, [], _++_, append-assoc}
 use Prim.Native.Nat.{ℕ, suc, _+_, _-_, _*_, _^_, _≤_, _<_}
@@ -13,7 +13,7 @@ use Rattle.rows.proofs.Rows.{length-words, row-words}
 use Rattle.format.specs.declared.head.Holder.{Holder}
 use Rattle.format.specs.declared.head.Holder.the-variants.{Array, Record, Map}
 use Rattle.format.specs.declared.head.Children.{Children}
-use Rattle.format.specs.declared.head.Children.the-variants.{Plain, Keyed, Growing}
+use Rattle.format.specs.declared.head.Children.the-variants.{Growing}
 use Rattle.format.specs.Tree.{Tree, leaf, refer, hold, declare, Trees, none, more, many, size, sizes}
 use Rattle.format.specs.Value.{childCount, isKey}
 use Rattle.format.specs.Layout.{isEntry, layout, layouts, grown, entries}

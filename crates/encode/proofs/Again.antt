@@ -1,6 +1,6 @@
 -- A right tree that is written reads back, with its new places, up to the end of its bytes. By induction on the tree. Assumes nothing.
 use mathlib.Core.Path.{_≡_, refl, sym, ap, ap₂, _∙_, subst}
-use Prim.Native.Nat.{ℕ, zero, suc, _+_, _-_, _%_, _≤_, _<_}
+use Prim.Native.Nat.{ℕ, zero, suc, _+_, _-_, _≤_, _<_}
 use native.Mathlib.Omega.{arith}
 use native.Mathlib.Nat.{add-zero}
 use mathlib.Core.Bool.{Bool, true, false, cond}
@@ -18,7 +18,7 @@ use Rattle.format.specs.declared.head.Holder.{Holder}
 use Rattle.format.specs.declared.head.Holder.the-variants.{Array, Record, Map}
 use Rattle.format.specs.declared.head.Head.the-variants as stand
 use Rattle.format.specs.declared.head.Children.{Children}
-use Rattle.format.specs.declared.head.Children.the-variants.{Plain, Keyed, Growing}
+use Rattle.format.specs.declared.head.Children.the-variants.{Plain, Growing}
 use Rattle.format.specs.Head.{headAt, keyAt}
 use Rattle.format.specs.Tree.{Tree, leaf, refer, hold, declare, Trees, none, more, many}
 use Rattle.format.specs.Value.{Reading, right, wrong, Run, ran, Reader, leafOf, kindOf, childCount, childrenOf, keyed, inTurn, child, inForce, ahead, follow, run, closed, declaring, framed, inForeign, value, ended, whole, isKey}
@@ -182,13 +182,11 @@ at-depth d s k at stop x h e = ap (λ (m : ℕ). value m s k at stop) (sym (suc-
 child-again : (s s′ : List ℕ) → length s′ ≤ limit → (t : Tree) → Again s s′ t → (d : ℕ) (c : Children) (k i at stop : ℕ) → Either (isKey c i) (KeyFine s t) (Fine s d (inForce c k i) t) → Worded t
     → Stand s′ at stop (encode s t) → child c (value d s′) s′ k i at stop ≡ right (placed s t at) (at + length (encode s t))
 unfolding child
-child-again s s′ short t own d Plain k i at stop f w h = own d k at stop f w h
-child-again s s′ short t own d Keyed k i at stop f w h = of (eqb (i % 2) 0) f
+child-again s s′ short t own d c k i at stop f w h = of (isKey c i) f
   where
-    of : (b : Bool) → Either b (KeyFine s t) (Fine s d k t) → inTurn b (value d s′) s′ k at stop ≡ right (placed s t at) (at + length (encode s t))
+    of : (b : Bool) → Either b (KeyFine s t) (Fine s d (inForce c k i) t) → inTurn b (value d s′) s′ (inForce c k i) at stop ≡ right (placed s t at) (at + length (encode s t))
     of true g = key-again s s′ at stop short t g h
-    of false g = own d k at stop g w h
-child-again s s′ short t own d Growing k i at stop f w h = own d i at stop f w h
+    of false g = own d (inForce c k i) at stop g w h
 
 -- ---- holders
 

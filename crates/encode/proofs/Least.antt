@@ -1,6 +1,6 @@
 -- Nothing that reads as a tree is shorter than its bytes. By induction on the levels left. Assumes nothing.
 use mathlib.Core.Path.{_≡_, refl, sym, ap, _∙_, subst}
-use Prim.Native.Nat.{ℕ, zero, suc, _+_, _-_, _%_, _^_, _≤_, _<_}
+use Prim.Native.Nat.{ℕ, zero, suc, _+_, _-_, _^_, _≤_, _<_}
 use native.Mathlib.Omega.{arith}
 use mathlib.Core.Bool.{Bool, true, false, cond}
 use mathlib.Core.List.{List, [], _∷_, _++_, append-nil}
@@ -38,12 +38,12 @@ use Rattle.format.specs.declared.head.Holder.the-variants.{Array, Record, Map}
 use Rattle.format.specs.declared.head.Head.{Head}
 use Rattle.format.specs.declared.head.Head.the-variants as stand
 use Rattle.format.specs.declared.head.Children.{Children}
-use Rattle.format.specs.declared.head.Children.the-variants.{Plain, Keyed, Growing}
+use Rattle.format.specs.declared.head.Children.the-variants.{Growing}
 use Rattle.format.specs.Head.{Marker, constant, float, text, array, entries, map, binary, special, nothing, signedBody, unsignedBody, small, char, reference, markerOf, bodied, spelled, textBody, codepoint, charBody, floatSize, withCount, textHead, declareHead, foreignHead, secondHead, stands, headAt, keyAt}
 use Rattle.format.specs.Tree.{Tree, leaf, hold, Trees, none, more}
-use Rattle.format.specs.Value.{Reading, right, wrong, Run, ran, broke, leafOf, kindOf, childCount, childrenOf, keyed, inTurn, child, ahead, follow, run, held, referred, closed, declaring, framed, framedRight, inForeign, step, value, document}
+use Rattle.format.specs.Value.{Reading, right, wrong, Run, ran, broke, leafOf, kindOf, childCount, childrenOf, keyed, isKey, inForce, inTurn, child, ahead, follow, run, held, referred, closed, declaring, framed, framedRight, inForeign, step, value, document}
 use Rattle.rules.specs.declared.kind.Kind.{Kind}
-use Rattle.rules.specs.declared.kind.Kind.the-variants.{Constant, Small, Signed, Unsigned, Float, Text as Spelt, Holds, Binary, Char, Damaged, Other}
+use Rattle.rules.specs.declared.kind.Kind.the-variants.{Constant, Small, Signed, Unsigned, Float, Text as Spelt, Binary, Char, Damaged, Other}
 use Rattle.rules.specs.Shape.{named}
 use Rattle.rules.proofs.Read.{marker-has, small-words, small-both}
 use Rattle.wide.proofs.Runs.{number-has}
@@ -316,9 +316,7 @@ module _ (s : List ℕ) (b : Bytes s) (few : length s ≤ limit) (d : ℕ) (good
 
   child-least : (c : Children) (k i at stop : ℕ) → stop ≤ length s → LeastRead s at (child c (value d s) s k i at stop)
   unfolding child
-  child-least Plain k i at stop l = good k at stop l
-  child-least Keyed k i at stop l = turn-least (eqb (i % 2) 0) k at stop l
-  child-least Growing k i at stop l = good i at stop l
+  child-least c k i at stop l = turn-least (isKey c i) (inForce c k i) at stop l
 
   ahead-least : (at m : ℕ) (t : Tree) (q : Run) → at + length (encode s t) ≤ m → LeastRun s m q → LeastRun s at (ahead t q)
   unfolding encode

@@ -1,7 +1,7 @@
 -- Reading goes by the bytes alone: the same bytes elsewhere end as far on, or are refused for the same reason. By induction on the levels left.
 -- Assumes nothing.
 use mathlib.Core.Path.{_≡_, refl, sym, ap, ap₂, _∙_}
-use Prim.Native.Nat.{ℕ, zero, suc, _+_, _-_, _%_, _≤_, _<_}
+use Prim.Native.Nat.{ℕ, zero, suc, _+_, _-_, _≤_, _<_}
 use native.Mathlib.Omega.{arith}
 use native.Mathlib.Nat.{zero-add}
 use mathlib.Core.Bool.{Bool, true, false, cond}
@@ -30,10 +30,10 @@ use Rattle.format.specs.declared.head.Holder.the-variants.{Array, Record, Map}
 use Rattle.format.specs.declared.head.Head.{Head}
 use Rattle.format.specs.declared.head.Head.the-variants.{Leaf, Hold, Refer, Declare, Foreign, Refuse}
 use Rattle.format.specs.declared.head.Children.{Children}
-use Rattle.format.specs.declared.head.Children.the-variants.{Plain, Keyed, Growing}
+use Rattle.format.specs.declared.head.Children.the-variants.{Growing}
 use Rattle.format.specs.Head.{Marker, constant, float, text, array, entries, map, binary, special, nothing, signedBody, unsignedBody, small, char, reference, markerOf, countOf, countAt, bodied, spelled, textBody, codepoint, charBody, charHead, floatSize, withCount, declareHead, foreignHead, secondHead, specialHead, stands, headAt, keyAt}
 use Rattle.format.specs.Tree.{Tree, Trees}
-use Rattle.format.specs.Value.{Reading, right, wrong, Run, ran, broke, Reader, kindOf, childCount, childrenOf, keyed, inTurn, child, ahead, follow, run, held, referred, closed, declaring, framed, framedRight, inForeign, step, value}
+use Rattle.format.specs.Value.{Reading, right, wrong, Run, ran, broke, Reader, kindOf, childCount, childrenOf, keyed, isKey, inForce, inTurn, child, ahead, follow, run, held, referred, closed, declaring, framed, framedRight, inForeign, step, value}
 use Rattle.format.proofs.Heads.{Counted, counted, Stood, head-stood}
 use Rattle.format.proofs.Values.{ReadAt, RunAt, values-child, values-run}
 
@@ -363,9 +363,7 @@ module _ (s : List ℕ) (o n d : ℕ) (same : (k at stop : ℕ) → stop ≤ n �
 
   child-same : (c : Children) (k i at stop : ℕ) → at ≤ stop → stop ≤ n → told o (child c (value d s) s k i (o + at) (o + stop)) ≡ told 0 (child c (value d y) y k i at stop)
   unfolding child
-  child-same Plain k i at stop h l = same k at stop l
-  child-same Keyed k i at stop h l = turn-same (eqb (i % 2) 0) k at stop h l
-  child-same Growing k i at stop h l = same i at stop l
+  child-same c k i at stop h l = turn-same (isKey c i) (inForce c k i) at stop h l
 
   run-same : (c : Children) (k i m at stop : ℕ) → at ≤ stop → stop ≤ n → toldRun o (run (value d s) c s k i m (o + at) (o + stop)) ≡ toldRun 0 (run (value d y) c y k i m at stop)
   unfolding run

@@ -7,8 +7,6 @@ use Prim.Native.Nat.{ℕ, zero, suc, _+_, _-_, _≤_, _<_}
 use native.Mathlib.Omega.{arith}
 use lib.ListN.{length, getD, take, drop, length-take}
 use lib.Dec.{ltb, leb, eqb, lit≤}
-use mir.Syntax.{w32}
-use mir.Val.{Fits}
 use borrow.Author.Tests.{ltb-true, ltb-false, leb-true, eqb-false}
 use Rattle.wide.specs.Number.{number}
 use Rattle.wide.specs.Body.{sizeAt}
@@ -385,9 +383,6 @@ module _ (F : Family) (s : List ℕ) (at stop : ℕ) (c : Count) (count : c ≡ 
   pub count-at : CountAt at stop n next
   count-at = subst (Counted at stop) (sym count ∙ said) (counted F s at stop)
 
-  pub count-after : at < next
-  count-after = count-at .after
-
   pub count-within : next ≤ stop
   count-within = count-at .within
 
@@ -402,18 +397,6 @@ module _ (s : List ℕ) (at stop : ℕ) (h : Head) (head : h ≡ headAt s at sto
 
   pub refuse-place : (e : Refusal) (place : ℕ) → h ≡ Refuse e place → place ≡ at
   refuse-place e place q = stood-as (Refuse e place) q
-
-  -- what is not refused begins before the stop
-  pub head-before : ((e : Refusal) (place : ℕ) → h ≡ Refuse e place → ⊥) → at < stop
-  head-before f = go h (stood-as h refl) f
-    where
-      go : (g : Head) → Stood s at stop g → ((e : Refusal) (place : ℕ) → g ≡ Refuse e place → ⊥) → at < stop
-      go (Leaf c next) k f = omega arith
-      go (Hold x n next) k f = omega arith
-      go (Refer n next) k f = omega arith
-      go (Declare n next) k f = omega arith
-      go (Foreign place size) k f = omega arith
-      go (Refuse e place) k f = absurd (f e place refl)
 
   module _ (c : Content) (next : ℕ) (leaf : h ≡ Leaf c next) where
     pub leaf-at : LeafAt s at stop c next
@@ -447,9 +430,6 @@ module _ (s : List ℕ) (at stop : ℕ) (h : Head) (head : h ≡ headAt s at sto
       pub integer-few : size ≤ 16
       integer-few = integer-at .few
 
-      pub integer-begins : at < place
-      integer-begins = omega (arith, integer-at .begins)
-
       pub integer-ends : place + size ≡ next
       integer-ends = integer-at .ends
 
@@ -460,23 +440,11 @@ module _ (s : List ℕ) (at stop : ℕ) (h : Head) (head : h ≡ headAt s at sto
       pub span-at : SpanAt s at next kind place size
       span-at = content-as (holds.Span kind place size) content
 
-      pub span-begins : at < place
-      span-begins = span-at .begins
-
       pub span-ends : place + size ≡ next
       span-ends = span-at .ends
 
       pub span-within : place + size ≤ stop
       span-within = omega (arith, span-ends, leaf-within)
-
-      pub span-few : size ≤ limit
-      span-few = span-at .few
-
-      pub span-size-fits : Fits w32 size
-      span-size-fits = omega (arith, span-few)
-
-      pub span-place-fits : stop ≤ length s → length s ≤ limit → Fits w32 place
-      span-place-fits a l = omega (arith, span-within)
 
   module _ (x : Holder) (n next : ℕ) (hold : h ≡ Hold x n next) where
     pub hold-at : CountAt at stop n next
@@ -491,9 +459,6 @@ module _ (s : List ℕ) (at stop : ℕ) (h : Head) (head : h ≡ headAt s at sto
     pub hold-few : n ≤ limit
     hold-few = hold-at .few
 
-    pub hold-fits : Fits w32 n
-    hold-fits = omega (arith, hold-few)
-
   module _ (n next : ℕ) (refer : h ≡ Refer n next) where
     pub refer-at : CountAt at stop n next
     refer-at = stood-as (Refer n next) refer
@@ -506,9 +471,6 @@ module _ (s : List ℕ) (at stop : ℕ) (h : Head) (head : h ≡ headAt s at sto
 
     pub refer-few : n ≤ limit
     refer-few = refer-at .few
-
-    pub refer-fits : Fits w32 n
-    refer-fits = omega (arith, refer-few)
 
   module _ (n next : ℕ) (declare : h ≡ Declare n next) where
     pub declare-at : DeclareAt at stop n next
@@ -526,9 +488,6 @@ module _ (s : List ℕ) (at stop : ℕ) (h : Head) (head : h ≡ headAt s at sto
     pub declare-some : 1 ≤ n
     declare-some = declare-at .some
 
-    pub declare-fits : Fits w32 n
-    declare-fits = omega (arith, declare-few)
-
   module _ (place size : ℕ) (foreign : h ≡ Foreign place size) where
     pub foreign-at : ForeignAt at stop place size
     foreign-at = stood-as (Foreign place size) foreign
@@ -538,15 +497,6 @@ module _ (s : List ℕ) (at stop : ℕ) (h : Head) (head : h ≡ headAt s at sto
 
     pub foreign-within : place + size ≤ stop
     foreign-within = foreign-at .within
-
-    pub foreign-few : size ≤ limit
-    foreign-few = foreign-at .few
-
-    pub foreign-size-fits : Fits w32 size
-    foreign-size-fits = omega (arith, foreign-few)
-
-    pub foreign-place-fits : stop ≤ length s → length s ≤ limit → Fits w32 place
-    foreign-place-fits a l = omega (arith, foreign-within)
 
 -- h is the key at `at`
 module _ (s : List ℕ) (at stop : ℕ) (h : Head) (head : h ≡ keyAt s at stop) where
@@ -582,17 +532,8 @@ module _ (s : List ℕ) (at stop : ℕ) (h : Head) (head : h ≡ keyAt s at stop
       pub key-span : KeySpan s at next kind place size
       key-span = subst (KeyContent s at next) content (key-at .content)
 
-      pub key-begins : at < place
-      key-begins = key-span .begins
-
       pub key-ends : place + size ≡ next
       key-ends = key-span .ends
-
-      pub key-size-fits : Fits w32 size
-      key-size-fits = omega (arith, key-span .few)
-
-      pub key-place-fits : stop ≤ length s → length s ≤ limit → Fits w32 place
-      key-place-fits a l = omega (arith, key-ends, key-within)
 
     -- no other content
     pub key-named : Named c

@@ -1,7 +1,7 @@
 -- Laws of a holder's children, and of the words of a tree's rows: how many they are, where they end, and that they may be laid in parts, a holder's own row last.
 -- Assumes nothing.
 use mathlib.Core.Path.{_≡_, refl, sym, ap, _∙_}
-use Prim.Native.Nat.{ℕ, zero, suc, _+_, _*_, _≤_, _<_}
+use Prim.Native.Nat.{ℕ, zero, suc, _+_, _-_, _*_, _≤_, _<_}
 use native.Mathlib.Nat.{add-zero}
 use native.Mathlib.Omega.{arith}
 use mathlib.Core.Bool.{Bool, true, false}
@@ -143,7 +143,7 @@ entries-before (more t es) row registry j h =
     entries-before es (row + size t) (registry ++ (row ∷ [])) j (omega (arith, length-append registry (row ∷ []))) ∙ List·getD-append registry (row ∷ []) 0 j h
 
 -- where each has one row, they stand one behind the other
-pub entries-even : (es : Trees) (row : ℕ) (registry : List ℕ) (i : ℕ) → sizes es ≡ many es → i < many es → getD (entries es row registry) (length registry + i) 0 ≡ row + i
+entries-even : (es : Trees) (row : ℕ) (registry : List ℕ) (i : ℕ) → sizes es ≡ many es → i < many es → getD (entries es row registry) (length registry + i) 0 ≡ row + i
 unfolding entries many size
 entries-even none row registry i e h = absurd (let z : ⊥ = omega arith in z)
 entries-even (more t es) row registry zero e h =
@@ -155,3 +155,9 @@ entries-even (more t es) row registry (suc i) e h =
     let n : length registry + suc i ≡ length (registry ++ (row ∷ [])) + i = omega (arith, length-append registry (row ∷ [])) in
     let r : row + suc i ≡ row + size t + i = omega arith in
     rw (n, r) (entries-even es (row + size t) (registry ++ (row ∷ [])) i (omega (arith, sizes-many es)) (omega arith))
+
+-- as many rows as entries: each has one
+pub entries-each : (es : Trees) (row end count : ℕ) → many es ≡ count → end ≡ row + sizes es → end - row ≡ count → (i : ℕ) → i < count → getD (entries es row []) i 0 ≡ row + i
+entries-each es row end count n e q i h =
+    let z : length {A = ℕ} [] + i ≡ i = omega arith in
+    rw z at (entries-even es row [] i (omega (arith, n, e)) (omega (arith, n)))

@@ -2,7 +2,7 @@
 use mathlib.Core.Path.{_≡_, refl, sym, ap, _∙_}
 use mathlib.Core.Bool.{Bool, true, false}
 use mathlib.Core.List.{List}
-use Prim.Native.Nat.{ℕ, suc, _+_, _-_, _%_, _≤_, _<_}
+use Prim.Native.Nat.{ℕ, suc, _+_, _-_, _≤_, _<_}
 use native.Mathlib.Omega.{arith}
 use lib.ListN.{length}
 use lib.Dec.{eqb, ltb}
@@ -15,7 +15,7 @@ use Rattle.format.specs.declared.head.Holder.{Holder}
 use Rattle.format.specs.declared.head.Head.{Head}
 use Rattle.format.specs.declared.head.Head.the-variants.{Leaf, Hold, Refer, Declare, Foreign, Refuse}
 use Rattle.format.specs.declared.head.Children.{Children}
-use Rattle.format.specs.declared.head.Children.the-variants.{Plain, Keyed, Growing}
+use Rattle.format.specs.declared.head.Children.the-variants.{Growing}
 use Rattle.format.specs.Refusal.{numberOf as refusalNumber}
 use Rattle.format.specs.Tree.{Tree, leaf, refer, hold, declare, Trees, none, more}
 use Rattle.format.specs.Head.{headAt, keyAt}
@@ -64,10 +64,6 @@ module _ (d : ℕ) (s : List ℕ) (k at stop : ℕ) (h : Head) (head : h ≡ hea
         → value (suc d) s k at stop ≡ right (hold (kindOf x) n ts) last
     value-held ts last e = value-hold ∙ ap (held (kindOf x) n) e
 
-    pub value-hold-wrong : (e : Refusal) (place : ℕ) → run (value d s) (childrenOf x) s k 0 (childCount x n) next stop ≡ broke e place
-        → value (suc d) s k at stop ≡ wrong e place
-    value-hold-wrong e place q = value-hold ∙ ap (held (kindOf x) n) q
-
   module _ (n next : ℕ) (declares : h ≡ Declare n next) where
     pub value-declare : value (suc d) s k at stop ≡ declaring n (run (value d s) Growing s 0 0 n next stop) (value d s) stop
     unfolding step
@@ -82,9 +78,6 @@ module _ (d : ℕ) (s : List ℕ) (k at stop : ℕ) (h : Head) (head : h ≡ hea
 
       pub value-declared : (t : Tree) (end : ℕ) → value d s n last stop ≡ right t end → value (suc d) s k at stop ≡ right (declare n es t) end
       value-declared t end e = behind-entries ∙ ap (closed n es) e
-
-      pub value-declare-wrong : (e : Refusal) (place : ℕ) → value d s n last stop ≡ wrong e place → value (suc d) s k at stop ≡ wrong e place
-      value-declare-wrong e place q = behind-entries ∙ ap (closed n es) q
 
   module _ (place n : ℕ) (foreign : h ≡ Foreign place n) where
     pub value-foreign : value (suc d) s k at stop ≡ framed place n (value d s (inForeign k) place (place + n))
@@ -118,21 +111,13 @@ module _ (s : List ℕ) (at stop : ℕ) (h : Head) (head : h ≡ keyAt s at stop
 module _ (R : Reader) (s : List ℕ) (k i at stop : ℕ) where
   pub child-key : (c : Children) → isKey c i ≡ true → child c R s k i at stop ≡ keyed s (keyAt s at stop)
   unfolding child
-  child-key Plain e = cc
-  child-key Keyed e = ap (λ (b : Bool). inTurn b R s k at stop) e
-  child-key Growing e = cc
+  child-key c e = ap (λ (b : Bool). inTurn b R s (inForce c k i) at stop) e
 
   pub child-value : (c : Children) → isKey c i ≡ false → child c R s k i at stop ≡ R (inForce c k i) at stop
   unfolding child
-  child-value Plain e = refl
-  child-value Keyed e = ap (λ (b : Bool). inTurn b R s k at stop) e
-  child-value Growing e = refl
+  child-value c e = ap (λ (b : Bool). inTurn b R s (inForce c k i) at stop) e
 
 module _ (R : Reader) (c : Children) (s : List ℕ) (k i : ℕ) where
-  pub run-none : (n at stop : ℕ) → n ≡ 0 → run R c s k i n at stop ≡ ran none at
-  unfolding run
-  run-none n at stop z = rw z
-
   -- number i of n is left: the laws below speak of `suc m`, code of n - i and n - (i + 1)
   pub run-left : (n at stop : ℕ) (y : Run) → i < n → run R c s k i (suc (n - (i + 1))) at stop ≡ y → run R c s k i (n - i) at stop ≡ y
   run-left n at stop y l e = let q : n - i ≡ suc (n - (i + 1)) = omega arith in ap (λ (m : ℕ). run R c s k i m at stop) q ∙ e

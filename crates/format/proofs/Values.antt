@@ -3,12 +3,10 @@
 use mathlib.Core.Path.{_≡_, refl, sym, ap, subst, _∙_}
 use mathlib.Core.Bool.{Bool, true, false}
 use mathlib.Core.List.{List}
-use Prim.Native.Nat.{ℕ, zero, suc, _+_, _%_, _^_, _≤_, _<_}
+use Prim.Native.Nat.{ℕ, zero, suc, _+_, _^_, _≤_, _<_}
 use native.Mathlib.Omega.{arith}
 use lib.ListN.{length, take, drop}
 use lib.Dec.{ltb, eqb, lit<}
-use mir.Syntax.{w32}
-use mir.Val.{Fits}
 use borrow.Author.Tests.{eqb-true}
 use Rattle.wide.specs.Words.{wideOf}
 use Rattle.wide.specs.Body.{bodyValue}
@@ -27,13 +25,13 @@ use Rattle.format.specs.declared.head.Holder.the-variants.{Array, Record
 use Rattle.format.specs.declared.head.Head.{Head}
 use Rattle.format.specs.declared.head.Head.the-variants.{Leaf, Hold, Refer, Declare, Foreign, Refuse}
 use Rattle.format.specs.declared.head.Children.{Children}
-use Rattle.format.specs.declared.head.Children.the-variants.{Plain, Keyed, Growing}
+use Rattle.format.specs.declared.head.Children.the-variants.{Growing}
 use Rattle.format.specs.Refusal.{numberOf as refusalNumber}
 use Rattle.format.specs.Tree.{Tree, leaf, refer, hold, declare, Trees, none, more, size, sizes}
 use Rattle.format.specs.Head.{headAt, keyAt}
-use Rattle.format.specs.Value.{Reading, right, wrong, Run, ran, broke, Reader, integerLeaf, integerKind, leafOf, kindOf, childCount, childrenOf, keyed, inTurn, child, ahead, follow, run, held, referred, closed, declaring, framedRight, framed, inForeign, step, value, ended, whole, document}
+use Rattle.format.specs.Value.{Reading, right, wrong, Run, ran, broke, Reader, integerLeaf, integerKind, leafOf, kindOf, childCount, childrenOf, keyed, isKey, inForce, inTurn, child, ahead, follow, run, held, referred, closed, declaring, framedRight, framed, inForeign, step, value, ended, whole, document}
 use Rattle.wide.proofs.Families.{cond-case}
-use Rattle.format.proofs.Heads.{CountAt, ForeignAt, LeafAt, ContentAt, Payload, floating, written, plain, Stood, head-stood, KeyContent, KeyAt, KeyStood, key-stood, leaf-at, key-at}
+use Rattle.format.proofs.Heads.{CountAt, ForeignAt, LeafAt, ContentAt, Payload, floating, written, plain, Stood, head-stood, KeyContent, KeyStood, key-stood, leaf-at}
 use Rattle.format.proofs.Steps.{value-foreign}
 
 -- ---- "w2 verdict (2..10)"
@@ -263,9 +261,7 @@ module _ (R : Reader) (good : (k at stop : ℕ) → ReadAt at stop (R k at stop)
 
   child-read : (c : Children) (k i at stop : ℕ) → ReadAt at stop (child c R s k i at stop)
   unfolding child
-  child-read Plain k i at stop = good k at stop
-  child-read Keyed k i at stop = turn-read (eqb (i % 2) 0) k at stop
-  child-read Growing k i at stop = good i at stop
+  child-read c k i at stop = turn-read (isKey c i) (inForce c k i) at stop
 
   run-read : (c : Children) (k i n at stop : ℕ) → at ≤ stop → RunAt at stop (run R c s k i n at stop)
   unfolding run sizes
@@ -303,17 +299,11 @@ values-run d c s k i n at stop h = run-read (value d s) (value-read d s) s c k i
 pub values-child : (d : ℕ) (c : Children) (s : List ℕ) (k i at stop : ℕ) → ReadAt at stop (child c (value d s) s k i at stop)
 values-child d c s k i at stop = child-read (value d s) (value-read d s) s c k i at stop
 
-pub key-read : (s : List ℕ) (at stop : ℕ) → ReadAt at stop (keyed s (keyAt s at stop))
-key-read s at stop = keyed-read s at stop (keyAt s at stop) (key-stood s at stop)
-
 -- ---- one law for each part
 
 module _ (d : ℕ) (s : List ℕ) (k at stop : ℕ) (t : Tree) (next : ℕ) (read : value d s k at stop ≡ right t next) where
   pub right-at : RightAt at stop t next
   right-at = subst (ReadAt at stop) read (value-read d s k at stop)
-
-  pub value-after : at < next
-  value-after = omega (arith, right-at .some, right-at .rows)
 
   pub value-within : next ≤ stop
   value-within = right-at .within
@@ -325,9 +315,6 @@ module _ (d : ℕ) (s : List ℕ) (k at stop : ℕ) (t : Tree) (next : ℕ) (rea
   pub value-some : 1 ≤ size t
   value-some = right-at .some
 
-  pub value-words : stop ≤ length s → length s ≤ limit → Worded t
-  value-words h l = right-at .words (omega arith)
-
 module _ (d : ℕ) (s : List ℕ) (k at stop : ℕ) (e : Refusal) (place : ℕ) (read : value d s k at stop ≡ wrong e place) where
   pub wrong-at : WrongAt at stop place
   wrong-at = subst (ReadAt at stop) read (value-read d s k at stop)
@@ -338,32 +325,15 @@ module _ (d : ℕ) (s : List ℕ) (k at stop : ℕ) (e : Refusal) (place : ℕ) 
   pub wrong-within : at ≤ stop → place ≤ stop
   wrong-within h = wrong-at .within h
 
-module _ (d : ℕ) (c : Children) (s : List ℕ) (k i n at stop : ℕ) (h : at ≤ stop) where
-  module _ (ts : Trees) (next : ℕ) (read : run (value d s) c s k i n at stop ≡ ran ts next) where
-    pub ran-at : RanAt at stop ts next
-    ran-at = subst (RunAt at stop) read (values-run d c s k i n at stop h)
+module _ (d : ℕ) (c : Children) (s : List ℕ) (k i n at stop : ℕ) (h : at ≤ stop) (ts : Trees) (next : ℕ) (read : run (value d s) c s k i n at stop ≡ ran ts next) where
+  pub ran-at : RanAt at stop ts next
+  ran-at = subst (RunAt at stop) read (values-run d c s k i n at stop h)
 
-    pub run-from : at ≤ next
-    run-from = omega (arith, ran-at .rows)
+  pub run-within : next ≤ stop
+  run-within = ran-at .within
 
-    pub run-within : next ≤ stop
-    run-within = ran-at .within
-
-    pub run-rows : at + sizes ts ≤ next
-    run-rows = ran-at .rows
-
-    pub run-words : stop ≤ length s → length s ≤ limit → Wordeds ts
-    run-words a l = ran-at .words (omega arith)
-
-  module _ (e : Refusal) (place : ℕ) (read : run (value d s) c s k i n at stop ≡ broke e place) where
-    pub broke-at : BrokeAt at stop place
-    broke-at = subst (RunAt at stop) read (values-run d c s k i n at stop h)
-
-    pub broke-from : at ≤ place
-    broke-from = broke-at .from
-
-    pub broke-within : place ≤ stop
-    broke-within = broke-at .within
+  pub run-rows : at + sizes ts ≤ next
+  run-rows = ran-at .rows
 
 -- ---- the words that a leaf lays, and the casts
 
@@ -373,22 +343,11 @@ module _ (s : List ℕ) (at stop : ℕ) (h : Head) (c : Content) (next : ℕ) (l
       let k : LeafAt s at stop c next = leaf-at s at stop h head c next leaf in
       content-worded s at c next (k .content) (omega arith)
 
-  pub key-words : h ≡ keyAt s at stop → Worded (leafOf s c)
-  key-words head =
-      let k : KeyAt s at stop c next = key-at s at stop h head c next leaf in
-      key-worded s at c next (k .content) (omega arith)
-
 -- the same of what was promised of a leaf
 module _ (s : List ℕ) (c : Content) (words : Worded (leafOf s c)) (kind place n : ℕ) (content : c ≡ holds.Span kind place n) where
   span-words : LeafWords kind place n 0 0
   unfolding leafOf
   span-words = subst (λ (d : Content). Worded (leafOf s d)) content words
-
-  pub words-place-fits : Fits w32 place
-  words-place-fits = omega (arith, span-words .w0-fits)
-
-  pub words-size-fits : Fits w32 n
-  words-size-fits = omega (arith, span-words .w1-fits)
 
 -- ---- a foreign body
 

@@ -86,28 +86,27 @@ keyed s (Declare n next) = wrong why.Marker next
 keyed s (Foreign place size) = wrong why.Marker place
 keyed s (Refuse e place) = wrong e place
 
--- number i of a record's keys and values is a key where i is even
-abbrev pub inTurn : Bool → Reader → List ℕ → ℕ → ℕ → ℕ → Reading
-inTurn true R s around at stop = keyed s (keyAt s at stop)
-inTurn false R s around at stop = R around at stop
-
--- "While entry i of a declaration is read, entries 0..i-1 of that declaration are in force and nothing outside it"
-unfoldable pub child : Children → Reader → List ℕ → ℕ → ℕ → ℕ → ℕ → Reading
-child Plain R s around i at stop = R around at stop
-child Keyed R s around i at stop = inTurn (eqb (i % 2) 0) R s around at stop
-child Growing R s around i at stop = R i at stop
-
 -- "a record: key and value in turn": whether child number i is a key
 abbrev pub isKey : Children → ℕ → Bool
 isKey Plain i = false
 isKey Keyed i = eqb (i % 2) 0
 isKey Growing i = false
 
--- how many entries are in force for child number i of what has `around` around it
+-- "While entry i of a declaration is read, entries 0..i-1 of that declaration are in force and nothing outside it": how many are in force for
+-- child number i of what has `around` around it
 abbrev pub inForce : Children → ℕ → ℕ → ℕ
 inForce Plain around i = around
 inForce Keyed around i = around
 inForce Growing around i = i
+
+-- a key, or a value
+abbrev pub inTurn : Bool → Reader → List ℕ → ℕ → ℕ → ℕ → Reading
+inTurn true R s around at stop = keyed s (keyAt s at stop)
+inTurn false R s around at stop = R around at stop
+
+-- child number i
+unfoldable pub child : Children → Reader → List ℕ → ℕ → ℕ → ℕ → ℕ → Reading
+child c R s around i at stop = inTurn (isKey c i) R s (inForce c around i) at stop
 
 abbrev pub ahead : Tree → Run → Run
 ahead t (ran ts next) = ran (more t ts) next

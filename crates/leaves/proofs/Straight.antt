@@ -2,7 +2,7 @@
 use mathlib.Core.Path.{_≡_, _∙_, sym, ap, refl, subst}
 use mathlib.Core.Bool.{Bool, true, false}
 use mathlib.Core.List.{List, []}
-use Prim.Native.Nat.{ℕ, suc, _+_, _-_, _*_, _≤_, _<_}
+use Prim.Native.Nat.{ℕ, _+_, _-_, _*_, _≤_, _<_}
 use native.Mathlib.Omega.{arith}
 use lib.ListN.{length, getD, take, drop}
 use lib.Seq.{sets}
@@ -16,7 +16,6 @@ use Rattle.text.specs.Check.{textOf, wellFormed}
 use Rattle.rows.specs.declared.row.Row.{Row}
 use Rattle.rows.specs.Table.{wordsPerRow, wordsOf}
 use Rattle.rows.specs.Kinds.{kindSmall, kindText, kindBinary, integerRow, spanRow}
-use Rattle.format.specs.declared.head.Count.{Count}
 use Rattle.format.specs.declared.head.Count.the-variants.{Is}
 use Rattle.format.specs.declared.head.Content.{Content}
 use Rattle.format.specs.declared.head.Content.the-variants.{Small, Integer, Span}
@@ -27,7 +26,7 @@ use Rattle.format.specs.Value.{integerKind, leafOf}
 use Rattle.format.specs.Layout.{layout}
 use Rattle.heads.proofs.Counts.{length-one}
 use Rattle.heads.proofs.Positions as positions
-use Rattle.leaves.specs.Laying.{Laid, Tried}
+use Rattle.leaves.specs.Laying.{Tried}
 use Rattle.leaves.proofs.Leaves.{small-words, integer-words, span-words}
 
 -- ---- what a body asks

@@ -1,7 +1,7 @@
 -- Laws of `sets`, the kit's run of stores: vs laid over l from index i on, what would fall behind the end dropped. Beside them the kit has
 -- `length-sets` and `sets-eq` (`sets l i vs ≡ take i l ++ vs ++ drop (i + length vs) l`, where it fits). Assumes nothing.
 use mathlib.Core.Path.{_≡_, refl, sym, ap, _∙_}
-use Prim.Native.Nat.{ℕ, zero, suc, _+_, _-_, _≤_, _<_}
+use Prim.Native.Nat.{ℕ, zero, suc, _+_, _≤_, _<_}
 use native.Mathlib.Nat.{add-zero, zero-add}
 use native.Mathlib.Omega.{arith}
 use mathlib.Core.List.{List, [], _∷_, _++_, append-nil, append-assoc}
@@ -69,11 +69,6 @@ getD-sets-in l i (v ∷ vs) (suc j) h lt =
     ap (λ (n : ℕ). getD (sets (set l i v) (suc i) vs) n 0) e
     ∙ getD-sets-in (set l i v) (suc i) vs j (omega (arith, length-set l i v)) (omega arith)
 
-pub getD-sets-at : (l : List ℕ) (i : ℕ) (vs : List ℕ) (j : ℕ) → i + length vs ≤ length l → i ≤ j → j < i + length vs → getD (sets l i vs) j 0 ≡ getD vs (j - i) 0
-getD-sets-at l i vs j h k lt =
-    let e : j ≡ i + (j - i) = omega arith in
-    ap (λ (n : ℕ). getD (sets l i vs) n 0) e ∙ getD-sets-in l i vs (j - i) h (omega arith)
-
 -- the part before a run
 pub take-sets : (n : ℕ) (l : List ℕ) (i : ℕ) (vs : List ℕ) → n ≤ i → take n (sets l i vs) ≡ take n l
 take-sets n l i [] h = refl
@@ -113,7 +108,3 @@ pub take-sets-at : (l : List ℕ) (i : ℕ) (vs : List ℕ) → i + length vs �
 take-sets-at l i vs h =
     ap (take (i + length vs)) (sets-eq vs l i h)
     ∙ take-at (take i l ++ vs) (drop (i + length vs) l) (i + length vs) (omega (arith, length-append (take i l) vs, length-take-le i l (omega arith)))
-
--- a run is read back
-pub part-sets : (l : List ℕ) (i : ℕ) (vs : List ℕ) → i + length vs ≤ length l → take (length vs) (drop i (sets l i vs)) ≡ vs
-part-sets l i vs h = ap (take (length vs)) (drop-sets-at l i vs h) ∙ take-at vs (drop (i + length vs) l) (length vs) refl

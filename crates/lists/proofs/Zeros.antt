@@ -8,7 +8,7 @@ use mathlib.Core.List.{List, [], _∷_, _++_, append-nil, append-assoc}
 use lib.ListN.{length, getD, set, take, drop, replicate, length-set, length-take, length-append, length-replicate}
 use lib.Seq.{sets, length-sets, take-all, take-suc-set, append-snoc}
 use Rattle.lists.specs.Zeroed.{zeroed}
-use Rattle.lists.proofs.Sets.{sets-cons, sets-out, sets-whole, take-sets, take-sets-at}
+use Rattle.lists.proofs.Sets.{sets-cons, sets-out, sets-whole, take-sets-at}
 
 pub length-zeroed : (from : ℕ) (l : List ℕ) → length (zeroed from l) ≡ length l
 unfolding zeroed
@@ -71,19 +71,6 @@ getD-zeroed-behind zero l j h = rw zeroed-all (getD-zeros (length l) j)
 getD-zeroed-behind (suc from) [] j h = rw zeroed-nil
 getD-zeroed-behind (suc from) (x ∷ l) zero h = absurd (omega arith)
 getD-zeroed-behind (suc from) (x ∷ l) (suc j) h = rw zeroed-cons (getD-zeroed-behind from l j (omega arith))
-
--- the numbers before the place and the length are all that counts
-pub zeroed-alike : (from : ℕ) (k l : List ℕ) → take from k ≡ take from l → length k ≡ length l → zeroed from k ≡ zeroed from l
-unfolding zeroed
-zeroed-alike from k l e n = rw (e, n)
-
--- zeroed from a place further back, then from here
-pub zeroed-again : (n from : ℕ) (l : List ℕ) → n ≤ from → zeroed n (zeroed from l) ≡ zeroed n l
-zeroed-again n from l h = zeroed-alike n (zeroed from l) l (take-zeroed n from l h) (length-zeroed from l)
-
--- a run laid behind the place is lost
-pub zeroed-sets-behind : (from : ℕ) (l : List ℕ) (i : ℕ) (vs : List ℕ) → from ≤ i → zeroed from (sets l i vs) ≡ zeroed from l
-zeroed-sets-behind from l i vs h = zeroed-alike from (sets l i vs) l (take-sets from l i vs h) (length-sets l i vs)
 
 -- what was laid stays, and what is behind it is 0
 pub zeroed-sets : (l : List ℕ) (i : ℕ) (vs : List ℕ) → i + length vs ≤ length l

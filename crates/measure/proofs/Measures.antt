@@ -2,7 +2,7 @@
 use mathlib.Core.Path.{_≡_, refl, sym, ap, ap₂, _∙_}
 use mathlib.Core.Bool.{Bool, true, false}
 use mathlib.Core.List.{List}
-use Prim.Native.Nat.{ℕ, suc, _+_, _-_, _%_, _^_, _≤_, _<_}
+use Prim.Native.Nat.{ℕ, suc, _+_, _-_, _^_, _≤_, _<_}
 use native.Mathlib.Omega.{arith}
 use native.Mathlib.Nat.{zero-add, add-zero, sub-zero, add-assoc}
 use lib.ListN.{length}
@@ -16,7 +16,7 @@ use Rattle.format.specs.declared.head.Holder.{Holder}
 use Rattle.format.specs.declared.head.Head.{Head}
 use Rattle.format.specs.declared.head.Head.the-variants.{Leaf, Hold, Refer, Declare, Foreign, Refuse}
 use Rattle.format.specs.declared.head.Children.{Children}
-use Rattle.format.specs.declared.head.Children.the-variants.{Plain, Keyed, Growing}
+use Rattle.format.specs.declared.head.Children.the-variants.{Growing}
 use Rattle.format.specs.Tree.{Tree, refer, Trees, size, sizes}
 use Rattle.format.specs.Head.{headAt, keyAt}
 use Rattle.format.specs.Value.{Reading, right, wrong, Run, ran, broke, Reader, leafOf, kindOf, childCount, childrenOf, keyed, child, isKey, inForce, ahead, follow, run, held, closed, declaring, framed, inForeign, value, document}

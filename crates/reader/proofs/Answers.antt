@@ -1,6 +1,5 @@
 -- The answer and the table afterwards, by each way out of reading; and that two answers allowed are equal. Assumes nothing.
 use mathlib.Core.Path.{_≡_, _∙_, sym, ap, subst, refl}
-use mathlib.Core.Bool.{cond}
 use mathlib.Core.List.{List, []}
 use Prim.Native.Nat.{ℕ, suc, _+_, _*_, _^_, _≤_, _<_}
 use native.Mathlib.Omega.{arith}
@@ -16,7 +15,7 @@ use Rattle.rows.specs.Table.{wordsPerRow, lent, limit}
 use Rattle.format.specs.declared.refusal.Refusal.{Refusal}
 use Rattle.format.specs.declared.answer.Answer.{Answer}
 use Rattle.format.specs.declared.answer.Answer.the-variants.{Accepted, TooLong, Refused, Full}
-use Rattle.format.specs.Tree.{Tree, size}
+use Rattle.format.specs.Tree.{size}
 use Rattle.format.specs.Value.{Reading, right, wrong, value, document}
 use Rattle.format.specs.Layout.{layout}
 use Rattle.format.specs.Answer.{answerFor, answer, filled, tableAfter}
@@ -29,7 +28,7 @@ use Rattle.measure.specs.declared.measured.Measured.the-variants as measured
 use Rattle.measure.specs.Measured.{measuredOf}
 use Rattle.lists.proofs.Zeros.{length-zeroed}
 use Rattle.registry.proofs.Walks.{based-plain, below-none}
-use Rattle.reader.specs.Ready.{placeIn, rowIn, Right, treeOf, nextOf, Ready, Did, Open, Tried, Whole, notRead}
+use Rattle.reader.specs.Ready.{placeIn, rowIn, Right, treeOf, nextOf, Ready, Open, Tried, Whole, notRead}
 use Rattle.reader.proofs.Whole.{zeros-alike, whole-ready, whole-did}
 
 module _ (depth : ℕ) (s table : List ℕ) where

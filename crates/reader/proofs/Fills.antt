@@ -2,10 +2,10 @@
 use mathlib.Core.Path.{_≡_, _∙_, sym, ap, refl, subst}
 use mathlib.Core.Bool.{Bool, true, false}
 use mathlib.Core.List.{List, []}
-use Prim.Native.Nat.{ℕ, zero, suc, _+_, _-_, _*_, _%_, _≤_, _<_}
+use Prim.Native.Nat.{ℕ, _+_, _-_, _*_, _≤_, _<_}
 use native.Mathlib.Omega.{arith}
 use lib.Dec.{ltb}
-use lib.ListN.{length, getD}
+use lib.ListN.{length}
 use lib.Seq.{sets}
 use borrow.Author.Tests.{lt-ltb, le-ltb, ne-eqb}
 use Rattle.rows.specs.declared.row.Row.{Row}
@@ -19,7 +19,7 @@ use Rattle.format.specs.declared.head.Holder.{Holder}
 use Rattle.format.specs.declared.head.Head.{Head}
 use Rattle.format.specs.declared.head.Head.the-variants.{Leaf, Hold, Refer, Declare, Foreign, Refuse}
 use Rattle.format.specs.declared.head.Children.{Children}
-use Rattle.format.specs.declared.head.Children.the-variants.{Plain, Keyed, Growing}
+use Rattle.format.specs.declared.head.Children.the-variants.{Growing}
 use Rattle.format.specs.Refusal.{numberOf as refusalNumber}
 use Rattle.format.specs.Tree.{leaf, refer, many, size, sizes}
 use Rattle.format.specs.Head.{headAt, keyAt}
@@ -29,18 +29,18 @@ use Rattle.format.proofs.Heads as heads
 use Rattle.format.proofs.Steps as clauses
 use Rattle.heads.proofs.Positions.{head-missing}
 use Rattle.format.proofs.Values.{leaf-size, values-run}
-use Rattle.format.proofs.Layouts.{no-entry, around-force, entries-even}
+use Rattle.format.proofs.Layouts.{no-entry, around-force, entries-each}
 use Rattle.measure.specs.declared.measured.Measured.{Measured}
 use Rattle.measure.specs.declared.measured.Measured.the-variants as measured
 use Rattle.measure.specs.Measured.{measuredOf}
 use Rattle.registry.specs.Registry.{walk, chain, Below, firstIn, Based, baseOf}
-use Rattle.registry.proofs.Walks.{based-fewer, based-of, based-plain, below-fewer, below-none, chain-at, first-base, first-plain, walk-start}
+use Rattle.registry.proofs.Walks.{based-plain, based-rows, below-fewer, below-none, entry-based, entry-below, first-base, first-plain, walk-start}
 use Rattle.leaves.specs.Sane.{Sane}
 use Rattle.leaves.specs.Laying as leaves
-use Rattle.reader.specs.Ready.{behind, placeIn, rowIn, Laid, Right, treeOf, nextOf, treesOf, Ready, Did, Open, Tried, ReadyAll, DidAll, OpenAll, TriedAll}
+use Rattle.reader.specs.Ready.{behind, placeIn, rowIn, Laid, Right, treeOf, nextOf, treesOf, Ready, Did, Open, Tried, OpenAll, TriedAll}
 use Rattle.reader.proofs.Steps as steps
 use Rattle.reader.proofs.Growth.{below-declared, chain-declared}
-use Rattle.reader.proofs.Children.{run-many, run-rows, run-within}
+use Rattle.reader.proofs.Children.{run-many, run-rows}
 
 -- a refusal is not right
 never : (X : Type 0) (P : Reading) (e : Refusal) (p : ℕ) → P ≡ wrong e p → Right P → X
@@ -203,10 +203,10 @@ module _ (s : List ℕ) (at stop : ℕ) (h : Head) (head : h ≡ headAt s at sto
   refer-low n next e g = omega (arith, o .below n g, refer-row n next e)
 
 pub refer-below : (table : List ℕ) (row base k at n : ℕ) → Open table row base k at → n < k → Below table (firstIn base) n row
-refer-below table row base k at n o g = below-fewer table (firstIn base) k n row row (o .below) (omega arith) (omega arith)
+refer-below table row base k at n o g = entry-below table (firstIn base) k n row (o .below) g
 
 pub refer-based : (table : List ℕ) (row base k at n : ℕ) → Open table row base k at → n < k → Based table base (n + 1)
-refer-based table row base k at n o g = based-fewer table base k (n + 1) (o .based) (omega arith)
+refer-based table row base k at n o g = entry-based table base k n (o .based) g
 
 module _ (s : List ℕ) (at stop : ℕ) (h : Head) (head : h ≡ headAt s at stop) where
   pub leaf-next : (c : Content) (next : ℕ) → h ≡ Leaf c next → stop ≤ length s → length s ≤ limit → next ≤ limit
@@ -404,13 +404,6 @@ module _ (n d : ℕ) (s : List ℕ) (at stop : ℕ) (table : List ℕ) (row base
       own-chain : chain table₁ (row + 1) n ≡ entries (treesOf es) (row + 1) []
       own-chain = rw own-words (subst (λ (m : ℕ). chain (sets table (wordsPerRow * (row + 1)) (layouts (treesOf es) true (row + 1) [])) (row + 1) m ≡ entries (treesOf es) (row + 1) []) count (chain-declared (treesOf es) table (row + 1) (t .ready z .room)))
 
-      -- as many rows as entries: each has one
-      own-even : rowIn f - (row + 1) ≡ n → (i : ℕ) → i < n → walk table₁ (row + 1) i ≡ row + 1 + i
-      own-even e i h =
-          let q : length {A = ℕ} [] + i ≡ i = omega arith in
-          sym (chain-at table₁ (row + 1) n i h) ∙ ap (λ (r : List ℕ). getD r i 0) own-chain
-          ∙ (rw q at (entries-even (treesOf es) (row + 1) [] i (omega (arith, t .did z .past, count)) (omega (arith, count))))
-
       module _ (next own inner : ℕ) (en : next ≡ placeIn f) (eo : own ≡ rowIn f) (ei : inner ≡ baseOf (row + 1) own n) where
         first-inner : firstIn inner ≡ row + 1
         first-inner = ap firstIn ei ∙ first-base (row + 1) own n under
@@ -419,7 +412,7 @@ module _ (n d : ℕ) (s : List ℕ) (at stop : ℕ) (table : List ℕ) (row base
         own-open =
             record {
               below = rw (first-inner, eo) own-below;
-              based = rw (ei, eo) (based-of table₁ (row + 1) (rowIn f) n under own-even);
+              based = rw (ei, eo) (based-rows table₁ (row + 1) (rowIn f) n (entries (treesOf es) (row + 1) []) under own-chain (entries-each (treesOf es) (row + 1) (rowIn f) n count (t .did z .past)));
               low = omega (arith, left-low);
             }
 

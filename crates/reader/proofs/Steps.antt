@@ -16,12 +16,10 @@ use Rattle.rows.proofs.Rows.{lent-sets}
 use Rattle.format.specs.declared.head.Content.{Content}
 use Rattle.format.specs.declared.head.Content.the-variants as holds
 use Rattle.format.specs.declared.head.Holder.{Holder}
-use Rattle.format.specs.declared.head.Holder.the-variants.{Array, Record, Map}
-use Rattle.format.specs.declared.head.Children.{Children}
 use Rattle.format.specs.declared.head.Children.the-variants.{Growing}
 use Rattle.format.specs.Tree.{many, Tree, leaf, refer, hold, none, more, size, sizes}
-use Rattle.format.specs.Value.{Reading, right, wrong, Run, ran, broke, Reader, closed, leafOf, kindOf, childrenOf, inForce, held, referred, declaring, framed}
-use Rattle.format.specs.Layout.{isEntry, layout, layouts, entries}
+use Rattle.format.specs.Value.{Reading, right, wrong, Run, ran, broke, Reader, closed, leafOf, kindOf, childrenOf, held, referred, declaring, framed}
+use Rattle.format.specs.Layout.{layout, layouts, entries}
 use Rattle.registry.specs.Registry.{walk, chain, Below}
 use Rattle.format.proofs.Values.{leaf-size}
 use Rattle.reader.specs.Ready.{behind, placeIn, rowIn, Laid, Right, treeOf, nextOf, Ran, treesOf, nextsOf, Ready, Did, ReadyAll, DidAll}
@@ -42,9 +40,6 @@ did-as P P' table row first k table' at' row' e d = subst (λ (p : Reading). Did
 -- its own row is lent, and is below the limit
 pub ready-lent : (P : Reading) (table : List ℕ) (row first k : ℕ) → Ready P table row first k → row < lent table
 ready-lent P table row first k r = omega (arith, size-pos (treeOf P), r .room)
-
-pub ready-low : (P : Reading) (table : List ℕ) (row first k : ℕ) → Ready P table row first k → row < limit
-ready-low P table row first k r = omega (arith, size-pos (treeOf P), r .small)
 
 pub did-length : (P : Reading) (table : List ℕ) (row first k : ℕ) (table' : List ℕ) (at' row' : ℕ) → Did P table row first k table' at' row'
     → length table' ≡ length table
@@ -86,9 +81,6 @@ leaf-laid s c next table row first k table' f h l =
 -- ---- a reference
 
 module _ (n at next : ℕ) (table : List ℕ) (row first k : ℕ) (r : Ready (referred (ltb n k) n at next) table row first k) where
-  pub refer-below : Below table first n row
-  refer-below = below-fewer table first k n row row (r .below) (omega (arith, refer-view n k at next (r .good) .known)) (omega arith)
-
   -- the entry stands before it
   pub refer-low : walk table first n ≤ limit
   unfolding Below
@@ -107,12 +99,6 @@ module _ (n at next : ℕ) (table : List ℕ) (row first k : ℕ) (r : Ready (re
       })
 
 -- ---- a holder
-
--- a row below, with its children behind it: what laying it last asks
-pub all-lent : (Q : Run) (c : Children) (table : List ℕ) (row at first k i : ℕ) (table' : List ℕ) (at' row' : ℕ)
-    → DidAll Q c table at first k i table' at' row' → row < lent table → row < lent table'
-all-lent Q c table row at first k i table' at' row' d h =
-    omega (arith, ap length (d .words), length-sets table (wordsPerRow * at) (layouts (treesOf Q) (isEntry c) at (chain table first (inForce c k i))))
 
 module _ (h : Holder) (n : ℕ) (Q : Run) (table : List ℕ) (row first k : ℕ) (r : Ready (held (kindOf h) n Q) table row first k) where
   hold-rows : size (treeOf (held (kindOf h) n Q)) ≡ 1 + sizes (treesOf Q)
@@ -201,9 +187,6 @@ module _ (n : ℕ) (Q : Run) (R : Reader) (stop : ℕ) (table : List ℕ) (row f
 
       pub declare-end : row₂ ≤ limit
       declare-end = let z = declare-rows in omega (arith, r .small, declare-past)
-
-      pub declare-lent : row < lent table₂
-      declare-lent = omega (arith, entries-room, entries-lent, did-length (R n at₁ stop) table₁ row₁ (row + 1) n table₂ at₂ row₂ o)
 
       pub declare-did : (q : Row) (table₃ : List ℕ) → q ≡ declarationRow row₂ n → table₃ ≡ sets table₂ (wordsPerRow * row) (wordsOf q)
           → Did (declaring n Q R stop) table row first k table₃ at₂ row₂

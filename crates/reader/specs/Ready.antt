@@ -1,7 +1,7 @@
 -- What filling a table asks, and what it does. P is what a position reads as, Q what positions in a row read as; how they are read plays no
 -- part. Definitions only.
 use mathlib.Core.Path.{_≡_}
-use mathlib.Core.Bool.{Bool, true, false}
+use mathlib.Core.Bool.{true}
 use mathlib.Core.List.{List, []}
 use Prim.Native.Nat.{ℕ, _+_, _*_, _%_, _/_, _≤_, _<_}
 use lib.ListN.{length}
@@ -9,7 +9,6 @@ use lib.Seq.{sets}
 use Rattle.lists.specs.Zeroed.{zeroed}
 use Rattle.rows.specs.Table.{wordsPerRow, lent, limit}
 use Rattle.format.specs.declared.head.Children.{Children}
-use Rattle.format.specs.declared.head.Children.the-variants.{Plain, Keyed, Growing}
 use Rattle.format.specs.declared.answer.Answer.{Answer}
 use Rattle.format.specs.declared.answer.Answer.the-variants.{Refused, Full}
 use Rattle.format.specs.Tree.{Tree, leaf, Trees, none, size, sizes}

@@ -154,3 +154,17 @@ based-of table first end count h f = of (eqb (end - first) count) refl
         let q : firstIn (first + 4294967296) ≡ first = omega arith in
         record { small = omega arith; even = rw q (λ z. f (eqb-true (end - first) count e)) }
     of false e = based-plain table first count h
+
+-- where entries stand one behind the other in the list of their rows, they do in the table
+pub based-rows : (table : List ℕ) (first end count : ℕ) (rows : List ℕ) → first < 4294967296 → chain table first count ≡ rows
+    → (end - first ≡ count → (i : ℕ) → i < count → getD rows i 0 ≡ first + i) → Based table (baseOf first end count) count
+based-rows table first end count rows h e f =
+    based-of table first end count h (λ q i l. sym (chain-at table first count i l) ∙ ap (λ (r : List ℕ). getD r i 0) e ∙ f q i l)
+
+-- ---- entry n of those in force
+
+pub entry-below : (table : List ℕ) (first k n row : ℕ) → Below table first k row → n < k → Below table first n row
+entry-below table first k n row b l = below-fewer table first k n row row b (omega arith) (omega arith)
+
+pub entry-based : (table : List ℕ) (base k n : ℕ) → Based table base k → n < k → Based table base (n + 1)
+entry-based table base k n b l = based-fewer table base k (n + 1) b (omega arith)

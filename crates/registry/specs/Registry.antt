@@ -1,4 +1,4 @@
--- The registry in force, as two numbers and the table: the first entry's row, and how many are in force. Definitions only.
+-- The registry in force, as two numbers and the table: its base, which tells the first entry's row, and how many are in force. Definitions only.
 use mathlib.Core.Path.{_≡_}
 use mathlib.Core.Bool.{cond}
 use Prim.Native.Nat.{ℕ, zero, suc, _+_, _-_, _%_, _≤_, _<_}
@@ -20,7 +20,7 @@ chain table first (suc n) = chain table first n ++ (walk table first n ∷ [])
 unfoldable pub Below : List ℕ → ℕ → ℕ → ℕ → Type 0
 Below table first n row = (i : ℕ) → i < n → walk table first i < row
 
--- ---- the first entry's row in one number: above 2^32 it says that each entry has one row, so that none is walked over
+-- ---- the base: the first entry's row, and 2^32 more where each entry has one row, so that none is walked over
 
 abbrev pub firstIn : ℕ → ℕ
 firstIn base = base % 4294967296

@@ -5,12 +5,12 @@ use Prim.Native.Nat.{ℕ, _+_, _-_, _*_, _≤_, _<_}
 use native.Mathlib.Nat.{add-zero, zero-add}
 use native.Mathlib.Numerals.{add-one, add-two, add-three, add-four, add-five}
 use native.Mathlib.Omega.{arith, ne-cases}
-use mathlib.Core.List.{List, [], _++_}
+use mathlib.Core.List.{List, _++_}
 use lib.ListN.{length, getD, drop, replicate, List·getD-append}
-use lib.Seq.{sets, length-sets, getD-drop, drop-at, set-getD}
+use lib.Seq.{sets, length-sets, getD-drop, set-getD}
 use Rattle.lists.specs.Zeroed.{zeroed}
 use Rattle.lists.proofs.Sets.{sets-append, sets-comm, sets-join, sets-over, getD-sets-before, getD-sets-behind, drop-sets-at}
-use Rattle.lists.proofs.Zeros.{length-zeroed, getD-zeroed-before, getD-zeroed-behind, zeroed-front}
+use Rattle.lists.proofs.Zeros.{length-zeroed, zeroed-front}
 use Rattle.rows.specs.declared.row.Row.{Row}
 use Rattle.rows.specs.Table.{wordsPerRow, wordsOf, wordAt, rowAt, lent}
 
@@ -52,10 +52,6 @@ row-words table row r rest e =
     (λ n _. sym (getD-drop (wordsPerRow * row) table n 0) ∙ ap (λ (l : List ℕ). getD l n 0) e ∙ rw zero-add)
     ∙ row-front r rest
 
--- rows with the same words are the same row
-pub words-told : (q r : Row) → wordsOf q ≡ wordsOf r → q ≡ r
-words-told q r e = sym (row-front q []) ∙ ap (λ (l : List ℕ). rowAt (l ++ []) 0) e ∙ row-front r []
-
 -- the row that stands there, laid there again, changes nothing
 pub row-kept : (table : List ℕ) (row : ℕ) → sets table (wordsPerRow * row) (wordsOf (rowAt table row)) ≡ table
 unfolding wordsOf rowAt
@@ -81,10 +77,6 @@ pub row-append-left : (xs ys : List ℕ) (row : ℕ) → wordsPerRow * (row + 1)
 row-append-left xs ys row h =
     row-alike (xs ++ ys) row xs row (λ k lt. List·getD-append xs ys 0 (wordsPerRow * row + k) (omega arith))
 
-pub row-append-right : (xs ys : List ℕ) (n row : ℕ) → length xs ≡ wordsPerRow * n → rowAt (xs ++ ys) (n + row) ≡ rowAt ys row
-row-append-right xs ys n row e =
-    sym (row-drop (xs ++ ys) n row) ∙ ap (λ (l : List ℕ). rowAt l row) (drop-at xs ys (wordsPerRow * n) e)
-
 pub row-sets-in : (table : List ℕ) (n : ℕ) (vs : List ℕ) (row : ℕ) → wordsPerRow * n + length vs ≤ length table → wordsPerRow * (row + 1) ≤ length vs
     → rowAt (sets table (wordsPerRow * n) vs) (n + row) ≡ rowAt vs row
 row-sets-in table n vs row h k =
@@ -101,15 +93,6 @@ row-sets-before table row i vs h =
 pub row-sets-behind : (table : List ℕ) (row i : ℕ) (vs : List ℕ) → wordsPerRow * (row + 1) ≤ i → rowAt (sets table i vs) row ≡ rowAt table row
 row-sets-behind table row i vs h =
     row-alike (sets table i vs) row table row (λ n lt. getD-sets-before table i vs (wordsPerRow * row + n) (omega arith))
-
-pub row-zeroed-before : (table : List ℕ) (row from : ℕ) → wordsPerRow * (row + 1) ≤ from → rowAt (zeroed from table) row ≡ rowAt table row
-row-zeroed-before table row from h =
-    row-alike (zeroed from table) row table row (λ n lt. getD-zeroed-before from table (wordsPerRow * row + n) (omega arith))
-
--- a row behind the place is all zeros, as in a table of no rows
-pub row-zeroed-behind : (table : List ℕ) (row from : ℕ) → from ≤ wordsPerRow * row → rowAt (zeroed from table) row ≡ rowAt [] row
-row-zeroed-behind table row from h =
-    row-alike (zeroed from table) row [] row (λ n lt. getD-zeroed-behind from table (wordsPerRow * row + n) (omega arith))
 
 -- ---- a row that is laid
 

@@ -11,8 +11,6 @@ use Rattle.wide.specs.declared.wide.Wide.{Wide}
 use Rattle.wide.specs.Words.{valueOf, words}
 use Rattle.wide.specs.Family.{hasNumber}
 use Rattle.wide.specs.Members.{integer}
-use Rattle.text.specs.declared.answer.Text.{Text}
-use Rattle.text.specs.declared.answer.Text.the-variants.{WellFormed, IllFormed}
 use Rattle.text.specs.Check.{textOf, wellFormed}
 use Rattle.format.specs.declared.head.Holder.{Holder}
 use Rattle.format.specs.Head.{codepoint}

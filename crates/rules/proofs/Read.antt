@@ -1,6 +1,6 @@
 -- Every tree that is read is right: a law for each kind of leaf, then by induction on the levels left. Assumes nothing.
 use mathlib.Core.Path.{_≡_, refl, sym, ap, _∙_, subst}
-use Prim.Native.Nat.{ℕ, zero, suc, _+_, _-_, _%_, _≤_, _<_}
+use Prim.Native.Nat.{ℕ, zero, suc, _+_, _-_, _≤_, _<_}
 use native.Mathlib.Omega.{arith}
 use native.Mathlib.Nat.{mod-lt}
 use mathlib.Core.Bool.{Bool, true, false}
@@ -208,9 +208,7 @@ module _ (s : List ℕ) (d : ℕ) (good : (k at stop : ℕ) → stop ≤ length 
   child-fine : (c : Children) (k i at stop : ℕ) → stop ≤ length s
       → FineAt (λ t. Either (isKey c i) (KeyFine s t) (Fine s d (inForce c k i) t)) (child c (value d s) s k i at stop)
   unfolding child
-  child-fine Plain k i at stop l = good k at stop l
-  child-fine Keyed k i at stop l = turn-fine (eqb (i % 2) 0) k at stop l
-  child-fine Growing k i at stop l = good i at stop l
+  child-fine c k i at stop l = turn-fine (isKey c i) (inForce c k i) at stop l
 
   ahead-fine : (c : Children) (k i n : ℕ) (t : Tree) → Either (isKey c i) (KeyFine s t) (Fine s d (inForce c k i) t) → (q : Run)
       → FinesAt s d c (inForce c k (i + 1)) (i + 1) n q → FinesAt s d c (inForce c k i) i (suc n) (ahead t q)

@@ -1,6 +1,6 @@
 -- The row rules: the tree that stands in the rows of a table. Positions only; a row's own words are judged in Shape. Assumes nothing: these
 -- are definitions.
-use Prim.Native.Nat.{ℕ, zero, suc, _+_, _%_}
+use Prim.Native.Nat.{ℕ, zero, suc, _+_}
 use mathlib.Core.Bool.{Bool, true, false, cond, _&&_}
 use mathlib.Core.List.{List, []}
 use lib.ListN.{length, getD}
@@ -9,7 +9,7 @@ use Rattle.rows.specs.declared.row.Row.{Row}
 use Rattle.rows.specs.Table.{rowAt, lent, limit}
 use Rattle.rows.specs.Kinds.{kindKey}
 use Rattle.format.specs.declared.head.Children.{Children}
-use Rattle.format.specs.declared.head.Children.the-variants.{Plain, Keyed, Growing}
+use Rattle.format.specs.declared.head.Children.the-variants.{Plain, Growing}
 use Rattle.format.specs.Tree.{Tree, leaf, refer, hold, declare, Trees, none, more}
 use Rattle.format.specs.Value.{Reading, right, wrong, childCount, childrenOf, inForeign, value, whole, isKey}
 use Rattle.format.specs.Layout.{isEntry, grown, entries}

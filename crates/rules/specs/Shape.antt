@@ -7,8 +7,6 @@ use lib.Dec.{ltb, leb, eqb}
 use Rattle.wide.specs.Words.{valueOf, words}
 use Rattle.wide.specs.Family.{hasNumber}
 use Rattle.wide.specs.Members.{integer}
-use Rattle.text.specs.declared.answer.Text.{Text}
-use Rattle.text.specs.declared.answer.Text.the-variants.{WellFormed, IllFormed}
 use Rattle.text.specs.Check.{textOf, wellFormed}
 use Rattle.rows.specs.Kinds.{kindFalse, kindTrue, kindNone, kindSmall, kindSigned, kindUnsigned, kindFloat, kindText, kindArray, kindRecord, kindMap, kindBinary, kindChar, kindReference, kindDeclaration, kindForeign}
 use Rattle.format.specs.declared.head.Holder.the-variants.{Array, Record, Map}

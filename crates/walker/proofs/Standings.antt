@@ -90,12 +90,6 @@ module _ (table : List ℕ) (n row bound : ℕ) (g : Bool) (is : g ≡ genuine t
   pub is-lent : row < lent table
   is-lent = omega (arith, is-held, is-below)
 
-  pub bound-below : bound ≤ n
-  bound-below = leb-true bound n (and-first (leb bound n) T₅ four)
-
-  pub end-above : row < rowAt table row .end
-  end-above = ltb-true row (rowAt table row .end) (and-first (ltb row (rowAt table row .end)) (leb (rowAt table row .end) bound) five)
-
   pub row-fits : Fits w64 n → Fits w64 (row + 1)
   row-fits f = omega (arith, is-below)
 

@@ -1,12 +1,12 @@
 -- The words of a number with a byte more at the low end, doubled, and complemented. Assumes nothing.
-use mathlib.Core.Path.{_≡_, _∙_, sym, ap, refl, subst}
+use mathlib.Core.Path.{_≡_, _∙_, sym, ap, subst}
 use mathlib.Core.Bool.{Bool, true, false, cond}
 use Prim.Native.Nat.{ℕ, _+_, _-_, _*_, _/_, _%_, _^_, _≤_, _<_}
 use native.Mathlib.Omega.{arith}
 use lib.Dec.{ltb}
 use Rattle.wide.specs.declared.wide.Wide.{Wide}
 use Rattle.wide.specs.Words.{whole, valueOf, wideOf, words}
-use Rattle.wide.proofs.Wides.{Words, wide-digits, words-wide, wide-value, value-lt, value-wide, whole-words, half, half-words, carry-lt}
+use Rattle.wide.proofs.Wides.{Words, wide-digits, words-wide, wide-value, whole-words, half, half-words, carry-lt}
 
 abbrev pub shifted : Wide → ℕ → Wide
 shifted w b =

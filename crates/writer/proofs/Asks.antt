@@ -1,17 +1,16 @@
 -- The writer's questions, 12, 1, 13, each with its answer and the output afterwards. Assumes nothing.
-use mathlib.Core.Path.{_≡_, refl, sym, ap, ap₂, _∙_, subst}
+use mathlib.Core.Path.{_≡_, refl, sym, ap, _∙_, subst}
 use mathlib.Core.Bool.{Bool, true, false, cond}
-use mathlib.Core.List.{List, [], _++_}
+use mathlib.Core.List.{List, []}
 use Prim.Native.Nat.{ℕ, suc, _-_, _*_, _^_, _≤_, _<_}
 use native.Mathlib.Nat.{zero-add}
 use native.Mathlib.Omega.{arith}
 use lib.ListN.{length, getD, drop}
-use lib.Seq.{sets}
 use lib.Dec.{leb}
 use borrow.Author.Tests.{le-leb, lt-leb}
-use Rattle.rows.specs.Table.{wordsPerRow, rowAt, lent, limit}
+use Rattle.rows.specs.Table.{wordsPerRow, rowAt, limit}
 use Rattle.format.specs.Tree.{Tree}
-use Rattle.rules.specs.Grow.{Growth, rulesHold}
+use Rattle.rules.specs.Grow.{rulesHold}
 use Rattle.rules.specs.Fine.{Stands}
 use Rattle.rules.proofs.Exact.{yes-stands, laid-out, stands-grows}
 use Rattle.checker.specs.declared.checked.Checked.{Checked}
@@ -20,7 +19,6 @@ use Rattle.checker.specs.Checked.{checked}
 use Rattle.checker.proofs.Answers.{yes-holds}
 use Rattle.encode.specs.Encode.{encode}
 use Rattle.spell.specs.Own.{Inside}
-use Rattle.writer.specs.declared.written.Written.{Written}
 use Rattle.writer.specs.declared.written.Written.the-variants.{Done, BadTable, TooLarge, NoRoom}
 use Rattle.writer.specs.Written.{encoded, documentOf, written, outputAfter}
 use Rattle.writer.specs.Spells.{Spells, Spelt, Long, Fits, Laid}

@@ -1,14 +1,14 @@
 -- The rows of a right tree spell its bytes. By induction on the tree. Assumes nothing.
 use Rattle.format.specs.Value.{isKey}
-use mathlib.Core.Path.{_≡_, refl, sym, ap, ap₂, _∙_, subst}
+use mathlib.Core.Path.{_≡_, refl, sym, ap, _∙_, subst}
 use mathlib.Core.Bool.{Bool, true, false, cond}
 use mathlib.Core.List.{List, [], _++_, append-nil, append-assoc}
-use Prim.Native.Nat.{ℕ, suc, _+_, _-_, _*_, _≤_, _<_}
+use Prim.Native.Nat.{ℕ, _+_, _-_, _*_, _≤_, _<_}
 use native.Mathlib.Nat.{add-zero}
 use native.Mathlib.Omega.{arith}
 use lib.ListN.{length, getD, take, drop}
 use Rattle.wide.specs.Family.{form}
-use Rattle.wide.specs.Members.{referenceNumber, declarationCount}
+use Rattle.wide.specs.Members.{referenceNumber}
 use Rattle.wide.proofs.Ranks.{apart}
 use Rattle.rows.specs.declared.row.Row.{Row}
 use Rattle.rows.specs.Table.{wordsPerRow, wordsOf, rowAt}
@@ -20,7 +20,6 @@ use Rattle.format.specs.Tree.{Tree, leaf, refer, hold, declare, Trees, size, si
 use Rattle.format.specs.Tree as trees
 use Rattle.format.specs.Layout.{layout, layouts, grown, entries}
 use Rattle.format.proofs.Layouts.{length-layout, length-layouts}
-use Rattle.rules.specs.declared.kind.Kind.{Kind}
 use Rattle.rules.specs.declared.shape.Shape.the-variants as shape
 use Rattle.rules.specs.Shape.{named}
 use Rattle.rules.specs.Fine.{HoldFine, holder, foreign, KeyFine, Either, Fine, Fines}

@@ -1,6 +1,6 @@
 -- Writing rows one behind the other: what is written and what is left to write make the whole. Assumes nothing.
 use mathlib.Core.Path.{_≡_, refl, sym, ap, ap₂, _∙_, subst}
-use mathlib.Core.List.{List, [], _++_}
+use mathlib.Core.List.{List, _++_}
 use Prim.Native.Nat.{ℕ, _+_, _≤_, _<_}
 use native.Mathlib.Omega.{arith}
 use lib.ListN.{length, length-append}
@@ -10,7 +10,6 @@ use Rattle.rows.specs.declared.row.Row.{Row}
 use Rattle.rows.specs.Table.{rowAt, lent, limit}
 use Rattle.rows.specs.Kinds.{kindForeign}
 use Rattle.rules.specs.declared.kind.Kind.{Kind}
-use Rattle.rules.specs.declared.kind.Kind.the-variants.{Whole}
 use Rattle.rules.proofs.Says.{Names, names}
 use Rattle.encode.specs.Encode.{payload}
 use Rattle.spell.specs.Own.{kindOf, Inside, ownHead, ownBytes}

@@ -1,8 +1,5 @@
 -- `demands::write_and_read` meets its contract. Assumes nothing.
-use mathlib.Core.Path.{sym, ap}
-use Prim.Native.Nat.{ℕ, _^_, _<_}
-use native.Mathlib.Omega.{arith}
-use lib.ListN.{length, getD}
+use lib.ListN.{length}
 use borrow.Author.Needs.{needs}
 use Rattle.format.specs.Answer.{depthLimit}
 use Rattle.demands.proofs.Backs.{front-long, used-within, read-back, table-back, unwritten, unread, reads-back, bad-undone, large-undone, short-undone}

@@ -1,6 +1,7 @@
 -- `checker::one::check_reference` meets its contract. Assumes nothing.
 use borrow.Author.Needs.{needs}
-use Rattle.checker.proofs.Leaves.{number-based, number-below, refer-yes, refer-other, refer-out}
+use Rattle.registry.proofs.Walks.{entry-below, entry-based}
+use Rattle.checker.proofs.Leaves.{refer-yes, refer-other, refer-out}
 use Rattle.checker.proofs.one.check_reference.Statement.{statement}
 use Rattle.checker.proofs.one.check_reference.Tie as tie
 
@@ -8,7 +9,7 @@ number-requires : tie.Need-number-requires
 number-requires c κs = search needs
 
 entry-in-requires : tie.Need-entry-in-requires
-entry-in-requires c κs = (search needs, search needs, search number-below, search number-based)
+entry-in-requires c κs = (search needs, search needs, search entry-below, search entry-based)
 
 number-requires-2 : tie.Need-number-requires-2
 number-requires-2 c κs = search needs

@@ -1,8 +1,7 @@
 -- `reader::fill`: fill_value, fill_child and the functions between them meet their contracts. The measure is the levels left, as in measuring.
 -- A law of Fills or Children answers each way out. Assumes nothing.
-use Prim.Native.Nat.{ℕ, _+_, _*_, _-_, _≤_, _<_}
+use Prim.Native.Nat.{ℕ, _+_, _*_, _-_, _<_}
 use borrow.Author.Needs.{needs}
-use Rattle.format.specs.Value.{value}
 use Rattle.format.proofs.Heads.{hold-few, hold-within, declare-few, declare-within, refer-few}
 use Rattle.reader.proofs.Children.{Filling}
 use Rattle.reader.proofs.Children as children

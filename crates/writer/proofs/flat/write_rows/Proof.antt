@@ -1,6 +1,5 @@
 -- `writer::flat::write_rows` meets its contract: what is left to write completes the document. Assumes nothing.
 use Prim.Native.Nat.{_-_}
-use native.Mathlib.Omega.{arith}
 use borrow.Author.Needs.{needs}
 use Rattle.writer.proofs.Writing.{Writes, writes-start, row-held, child-spelt, row-inside, row-room, writes-turn, writes-end}
 use Rattle.writer.proofs.flat.write_rows.Statement.{statement}
