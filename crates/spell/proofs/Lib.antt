@@ -1,6 +1,3 @@
 -- Laws that belong to no one function.
-pub mod Forms
-pub mod Plans
-pub mod Owns
 pub mod Puts
 pub mod Shorts

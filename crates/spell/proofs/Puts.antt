@@ -1,5 +1,5 @@
 -- A row's own bytes laid in an output: the marks, the rest of the plan, the payload. Assumes nothing.
-use mathlib.Core.Path.{_≡_, refl, sym, ap, ap₂, _∙_, subst}
+use mathlib.Core.Path.{_≡_, refl, sym, ap, ap₂, _∙_}
 use mathlib.Core.Bool.{Bool, true, false, cond}
 use mathlib.Core.List.{List, [], _∷_, _++_, append-nil}
 use Prim.Native.Nat.{ℕ, zero, suc, _+_, _-_, _≤_, _<_}
@@ -12,12 +12,12 @@ use Rattle.wide.specs.Number.{bytesOf}
 use Rattle.wide.specs.Words.{valueOf}
 use Rattle.wide.proofs.Numbers.{length-bytesOf}
 use Rattle.rows.specs.declared.row.Row.{Row}
-use Rattle.rules.specs.declared.kind.Kind.{Kind}
 use Rattle.encode.specs.Encode.{hasBytes, payload}
 use Rattle.encode.proofs.Back.{part-long}
-use Rattle.spell.specs.declared.plan.Plan.{Plan}
-use Rattle.spell.specs.Plan.{marked, planBytes, Plans}
-use Rattle.spell.specs.Own.{kindOf, ownHead, ownBytes, ownSize, Inside}
+use Rattle.plan.specs.declared.plan.Plan.{Plan}
+use Rattle.plan.specs.Plan.{marked, planBytes, Plans}
+use Rattle.plan.specs.Own.{kindOf, ownHead}
+use Rattle.spell.specs.Own.{ownBytes, ownSize, Inside}
 
 -- ---- marks
 
@@ -78,36 +78,7 @@ part-end out t d at place size i l g =
     let z : 0 ≡ size - i = omega arith in
     ap (λ (k : ℕ). sets out (at + i) (take k (drop (place + i) d))) z ∙ g
 
--- ---- eight bytes of it, and a part that grows by them
-
-abbrev cells : ℕ → ℕ → List ℕ → List ℕ
-cells zero p d = []
-cells (suc n) p d = getD d p 0 ∷ cells n (suc p) d
-
-cells-part : (n p : ℕ) (d : List ℕ) → p + n ≤ length d → take n (drop p d) ≡ cells n p d
-cells-part zero p d h = refl
-cells-part (suc n) p d h = ap (take (suc n)) (drop-cons d p 0 (omega arith)) ∙ ap (λ (l : List ℕ). getD d p 0 ∷ l) (cells-part n (suc p) d (omega arith))
-
-pub eight-laid : (out d : List ℕ) (at p : ℕ) → p + 8 ≤ length d
-    → set (set (set (set (set (set (set (set out at (getD d p 0)) (at + 1) (getD d (p + 1) 0)) (at + 2) (getD d (p + 2) 0)) (at + 3) (getD d (p + 3) 0))
-    (at + 4) (getD d (p + 4) 0)) (at + 5) (getD d (p + 5) 0)) (at + 6) (getD d (p + 6) 0)) (at + 7) (getD d (p + 7) 0)
-    ≡ sets out at (take 8 (drop p d))
-eight-laid out d at p h =
-    let e1 : at + 1 ≡ suc at = omega arith in
-    let q1 : p + 1 ≡ suc p = omega arith in
-    let e2 : at + 2 ≡ suc (suc at) = omega arith in
-    let q2 : p + 2 ≡ suc (suc p) = omega arith in
-    let e3 : at + 3 ≡ suc (suc (suc at)) = omega arith in
-    let q3 : p + 3 ≡ suc (suc (suc p)) = omega arith in
-    let e4 : at + 4 ≡ suc (suc (suc (suc at))) = omega arith in
-    let q4 : p + 4 ≡ suc (suc (suc (suc p))) = omega arith in
-    let e5 : at + 5 ≡ suc (suc (suc (suc (suc at)))) = omega arith in
-    let q5 : p + 5 ≡ suc (suc (suc (suc (suc p)))) = omega arith in
-    let e6 : at + 6 ≡ suc (suc (suc (suc (suc (suc at))))) = omega arith in
-    let q6 : p + 6 ≡ suc (suc (suc (suc (suc (suc p))))) = omega arith in
-    let e7 : at + 7 ≡ suc (suc (suc (suc (suc (suc (suc at)))))) = omega arith in
-    let q7 : p + 7 ≡ suc (suc (suc (suc (suc (suc (suc p)))))) = omega arith in
-    rw (cells-part 8 p d h, e1, q1, e2, q2, e3, q3, e4, q4, e5, q5, e6, q6, e7, q7)
+-- ---- a part that grows by some bytes of it
 
 -- bytes from e on over those that are laid up to i
 pub part-over : (out d : List ℕ) (at e i n : ℕ) → e ≤ i → i ≤ e + n → e + n ≤ length d
@@ -139,6 +110,34 @@ pub part-last : (out₀ out after s : List ℕ) (at place size i : ℕ) → 8 �
 part-last out₀ out after s at place size i w l u h eo ea =
     let k : size - 8 + 8 ≡ size = omega arith in
     part-on out₀ out after s at place (size - 8) i 8 (omega arith) (omega arith) (omega arith) eo ea ∙ ap (λ (n : ℕ). sets out₀ at (take n (drop place s))) k
+
+-- ---- the first k bytes of a part, laid one by one
+
+-- k behind a place, as the code has it
+abbrev pub on : ℕ → ℕ → ℕ
+on at zero = at
+on at (suc k) = at + suc k
+
+pub on-is : (at k : ℕ) → on at k ≡ at + k
+on-is at zero = omega arith
+on-is at (suc k) = refl
+
+abbrev pub firsts : ℕ → List ℕ → ℕ → List ℕ → ℕ → List ℕ
+firsts zero out at d p = out
+firsts (suc k) out at d p = set (firsts k out at d p) (on at k) (getD d (on p k) 0)
+
+pub firsts-long : (k : ℕ) (out : List ℕ) (at : ℕ) (d : List ℕ) (p : ℕ) → length (firsts k out at d p) ≡ length out
+firsts-long zero out at d p = refl
+firsts-long (suc k) out at d p = length-set (firsts k out at d p) (on at k) _ ∙ firsts-long k out at d p
+
+pub firsts-laid : (k : ℕ) (out : List ℕ) (at : ℕ) (d : List ℕ) (p : ℕ) → p + k ≤ length d → firsts k out at d p ≡ sets out at (take k (drop p d))
+firsts-laid zero out at d p h = refl
+firsts-laid (suc k) out at d p h =
+    let e : k + 1 ≡ suc k = omega arith in
+    let F : List ℕ = firsts k out at d p in
+    part-on out F _ d at p k k 1 (omega arith) (omega arith) (omega arith) (firsts-laid k out at d p (omega arith))
+    (ap₂ (λ (x y : ℕ). set F x (getD d y 0)) (on-is at k) (on-is p k) ∙ ap (λ (l : List ℕ). sets F (at + k) (take 1 l)) (sym (drop-cons d (p + k) 0 (omega arith))))
+    ∙ ap (λ (n : ℕ). sets out at (take n (drop p d))) e
 
 -- ---- a row
 

@@ -1,8 +1,8 @@
 -- How long a row's own bytes are: no head has more than 19. Assumes nothing.
-use mathlib.Core.Path.{_≡_, refl, sym, ap, ap₂, _∙_}
+use mathlib.Core.Path.{_≡_, refl, ap, _∙_}
 use mathlib.Core.Bool.{Bool, true, false, cond}
 use mathlib.Core.List.{List, [], _∷_, _++_}
-use Prim.Native.Nat.{ℕ, _+_, _-_, _^_, _≤_, _<_}
+use Prim.Native.Nat.{ℕ, _+_, _^_, _≤_, _<_}
 use native.Mathlib.Omega.{arith}
 use lib.ListN.{length, take, drop, length-append}
 use Rattle.wide.specs.Number.{bytesOf}
@@ -19,10 +19,11 @@ use Rattle.format.specs.declared.head.Holder.the-variants.{Array, Record, Map}
 use Rattle.rows.specs.declared.row.Row.{Row}
 use Rattle.rules.specs.declared.kind.Kind.{Kind}
 use Rattle.rules.specs.declared.kind.Kind.the-variants.{Constant, Small, Signed, Unsigned, Float, Text, Holds, Binary, Char, Reference, Declaration, Whole, Damaged, Other}
-use Rattle.encode.specs.Encode.{floatMarker, holderCount, headFor, hasBytes}
+use Rattle.encode.specs.Encode.{holderCount, headFor, hasBytes}
 use Rattle.encode.proofs.Back.{part-long}
-use Rattle.spell.specs.Own.{kindOf, ownHead, ownBytes, ownSize, Inside}
-use Rattle.spell.proofs.Forms.{double-whole}
+use Rattle.plan.specs.Own.{kindOf, ownHead}
+use Rattle.plan.proofs.Forms.{double-whole}
+use Rattle.spell.specs.Own.{ownBytes, ownSize, Inside}
 
 -- ---- heads
 

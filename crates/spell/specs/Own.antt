@@ -5,18 +5,10 @@ use mathlib.Core.List.{List, _++_}
 use Prim.Native.Nat.{ℕ, _+_, _≤_}
 use lib.ListN.{length}
 use Rattle.rows.specs.declared.row.Row.{Row}
-use Rattle.rules.specs.declared.kind.Kind.{Kind}
-use Rattle.rules.specs.Shape.{named}
-use Rattle.encode.specs.Encode.{headFor, hasBytes, payload}
+use Rattle.encode.specs.Encode.{hasBytes, payload}
+use Rattle.plan.specs.Own.{kindOf, ownHead}
 
-abbrev pub kindOf : Row → Kind
-kindOf w = named (w .kind) (w .w2)
-
--- what stands before the row's payload, or before its children, which take `size` bytes
-unfoldable pub ownHead : Row → ℕ → List ℕ
-ownHead w size = headFor (w .kind) (w .w0) (w .w1) (w .w2) (w .w3) size (kindOf w)
-
--- with its payload in the data s
+-- what stands before the row's payload or its children, with its payload in the data s
 unfoldable pub ownBytes : List ℕ → Row → ℕ → List ℕ
 ownBytes s w size = ownHead w size ++ payload s (w .w0) (w .w1) (kindOf w)
 

@@ -5,10 +5,11 @@ ghost use Prim.Native.Nat.{_+_, _≤_};
 ghost use lib.ListN.{length, take, drop};
 ghost use lib.Seq.{sets};
 ghost use Rattle.encode.specs.Encode.{hasBytes};
-ghost use Rattle.spell.specs.Plan.{marked, planBytes};
-ghost use Rattle.spell.specs.Own.{kindOf, Inside, ownBytes, ownSize};
-use crate::own::head_of;
-use crate::plan::Plan;
+ghost use Rattle.plan.specs.Plan.{marked, planBytes};
+ghost use Rattle.plan.specs.Own.{kindOf};
+ghost use Rattle.spell.specs.Own.{Inside, ownBytes, ownSize};
+use plan::Plan;
+use plan::head_of;
 use rows::Row;
 use rules::Kind;
 

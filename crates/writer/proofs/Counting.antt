@@ -9,7 +9,8 @@ use Rattle.rows.specs.declared.row.Row.{Row}
 use Rattle.rows.specs.Table.{rowAt, lent, limit}
 use Rattle.rows.specs.Kinds.{kindForeign}
 use Rattle.encode.specs.Encode.{hasBytes}
-use Rattle.spell.specs.Own.{kindOf, ownHead, ownSize}
+use Rattle.plan.specs.Own.{kindOf, ownHead}
+use Rattle.spell.specs.Own.{ownSize}
 use Rattle.writer.specs.Spells.{Spells, Spelt, Long, Told}
 use Rattle.writer.proofs.Spelling.{First, first, ended, first-long, after-first, spelled-few}
 use Rattle.writer.proofs.Writing.{told-none}

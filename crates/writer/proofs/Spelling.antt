@@ -9,8 +9,8 @@ use Rattle.wide.proofs.Numbers.{either}
 use Rattle.wide.proofs.Wides.{Words}
 use Rattle.rows.specs.declared.row.Row.{Row}
 use Rattle.rows.specs.Table.{rowAt, limit}
+use Rattle.plan.proofs.Forms.{double-whole}
 use Rattle.spell.specs.Own.{Inside, ownBytes, ownSize}
-use Rattle.spell.proofs.Forms.{double-whole}
 use Rattle.spell.proofs.Shorts.{own-long, own-few}
 use Rattle.writer.specs.Spells.{Spells, none, next}
 

@@ -28,7 +28,8 @@ use Rattle.rules.proofs.Regrow.{behind}
 use Rattle.encode.specs.Encode.{headFor, hasBytes, payload, encode, encodes}
 use Rattle.encode.proofs.Again.{told-of, hold-kind, whole-kind}
 use Rattle.encode.proofs.Alike.{leaf-inside}
-use Rattle.spell.specs.Own.{kindOf, Inside, ownHead, ownBytes}
+use Rattle.plan.specs.Own.{kindOf, ownHead}
+use Rattle.spell.specs.Own.{Inside, ownBytes}
 use Rattle.writer.specs.Spells.{Spells, none, next}
 use Rattle.writer.proofs.Spelling.{spells-append}
 

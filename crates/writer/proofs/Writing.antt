@@ -12,7 +12,8 @@ use Rattle.rows.specs.Kinds.{kindForeign}
 use Rattle.rules.specs.declared.kind.Kind.{Kind}
 use Rattle.rules.proofs.Says.{Names, names}
 use Rattle.encode.specs.Encode.{payload}
-use Rattle.spell.specs.Own.{kindOf, Inside, ownHead, ownBytes}
+use Rattle.plan.specs.Own.{kindOf, ownHead}
+use Rattle.spell.specs.Own.{Inside, ownBytes}
 use Rattle.spell.proofs.Shorts.{head-any}
 use Rattle.writer.specs.Spells.{Spells, Spelt, Long, Told, Fits, Laid}
 use Rattle.writer.proofs.Spelling.{First, first, forward, ended, after-first}

@@ -6,7 +6,8 @@ use lib.ListN.{length}
 use lib.Seq.{sets}
 use Rattle.rows.specs.declared.row.Row.{Row}
 use Rattle.rows.specs.Table.{rowAt, lent, limit}
-use Rattle.spell.specs.Own.{Inside, ownHead, ownBytes}
+use Rattle.plan.specs.Own.{ownHead}
+use Rattle.spell.specs.Own.{Inside, ownBytes}
 
 -- the rows from `row` to `stop` spell `bytes`: a row's own, those of its children, and those of the rows behind its end
 pub data Spells (table s : List ℕ) : ℕ → ℕ → List ℕ → Type 0 where

@@ -1,7 +1,6 @@
 -- `spell::put::put_part` meets its contract: what is left to lay completes the part; a long one is laid in eights. Assumes nothing.
 use mathlib.Core.Path.{_≡_, refl}
 use Prim.Native.Nat.{_+_, _-_, _≤_}
-use native.Mathlib.Omega.{arith}
 use lib.ListN.{length, take, drop, length-set}
 use lib.Seq.{sets}
 use borrow.Author.Needs.{needs}

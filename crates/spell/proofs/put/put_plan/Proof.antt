@@ -1,10 +1,9 @@
 -- `spell::put::put_plan` meets its contract: the marks, the lead, the body. Assumes nothing.
-use mathlib.Core.Path.{_≡_, _∙_, sym}
+use mathlib.Core.Path.{_∙_}
 use Prim.Native.Nat.{_+_, _≤_}
 use native.Mathlib.Omega.{arith}
 use lib.ListN.{length, set, length-set}
 use borrow.Author.Needs.{needs}
-use Rattle.spell.specs.Plan.{planBytes}
 use Rattle.spell.proofs.Puts.{plan-long, plan-put}
 use Rattle.spell.proofs.put.put_plan.Statement.{statement}
 use Rattle.spell.proofs.put.put_plan.Tie as tie

@@ -1,5 +1,5 @@
 -- The forms of coded numbers as the code meets them: alone, direct behind the marks, or a body behind them. Assumes nothing.
-use mathlib.Core.Path.{_≡_, refl, sym, ap, ap₂, _∙_}
+use mathlib.Core.Path.{_≡_, refl, sym, ap, _∙_}
 use mathlib.Core.Bool.{Bool, true, false}
 use mathlib.Core.List.{List, [], _∷_, _++_}
 use Prim.Native.Nat.{ℕ, _+_, _-_, _*_, _%_, _^_, _≤_, _<_}
@@ -14,7 +14,7 @@ use Rattle.wide.specs.Family.{behind, hasNumber, byteOf, unmarkedForm, form}
 use Rattle.wide.specs.Members.{run, headed, integer, integerSigned, integerUnsigned}
 use Rattle.wide.proofs.Numbers.{either}
 use Rattle.wide.proofs.Nearness.{behind-up, behind-round, behind-zero}
-use Rattle.wide.proofs.Families.{cond-yes, cond-no, direct-form, body-form}
+use Rattle.wide.proofs.Families.{cond-yes, cond-no}
 use Rattle.wide.proofs.Sound.{sound-integers}
 use Rattle.encode.proofs.Fronts.{no-alone}
 
@@ -65,10 +65,7 @@ module _ (low count from : ℕ) (ms : List ℕ) (n : ℕ) (h : low + count ≤ 2
 
   -- 248 numbers are themselves
   direct-far : behind whole 0 n ≡ n
-  direct-far = far-from 0 n (omega arith) (omega arith) (omega (arith, double-whole)) ∙ omega-zero n
-    where
-      omega-zero : (m : ℕ) → m - 0 ≡ m
-      omega-zero m = omega arith
+  direct-far = let z : n - 0 ≡ n = omega arith in far-from 0 n (omega arith) (omega arith) (omega (arith, double-whole)) ∙ z
 
   pub form-direct : r ≡ false → n < 248 → ms ++ (n ∷ []) ≡ form (headed (run low count from) ms) n
   unfolding form unmarkedForm
@@ -106,9 +103,8 @@ low-byte true n h =
 low-byte false n h = ap (λ (x : ℕ). (0x3f + x) % 256) (sym (behind-zero n) ∙ behind-up 0 n (lit≤ tt) (omega arith)) ∙ plain-byte n
 
 unmarked-integer : (signed : Bool) (n : ℕ) → form (integer signed) n ≡ unmarkedForm (integer signed) n
-unfolding form
-unmarked-integer true n = cond-no (ltb (behind whole 0 n) 0) _ _ (le-ltb (behind whole 0 n) 0 (omega arith))
-unmarked-integer false n = cond-no (ltb (behind whole 0 n) 0) _ _ (le-ltb (behind whole 0 n) 0 (omega arith))
+unmarked-integer true n = no-alone integerSigned (sound-integers .signed) n refl
+unmarked-integer false n = no-alone integerUnsigned (sound-integers .unsigned) n refl
 
 signed-of : (signed : Bool) → integer signed .signed ≡ signed
 signed-of true = refl

@@ -1,5 +1,5 @@
 -- The plans that the code makes, by each way out. Assumes nothing.
-use mathlib.Core.Path.{_≡_, refl, sym, ap, ap₂, _∙_, subst}
+use mathlib.Core.Path.{_≡_, refl, ap₂, _∙_, subst}
 use mathlib.Core.Bool.{Bool, true, false}
 use mathlib.Core.List.{List, [], _∷_}
 use Prim.Native.Nat.{ℕ, _+_, _-_, _*_, _/_, _%_, _^_, _≤_, _<_}
@@ -13,9 +13,9 @@ use Rattle.wide.specs.Family.{behind, hasNumber, form}
 use Rattle.wide.specs.Members.{run, headed, integer}
 use Rattle.wide.proofs.Wides.{Words, value-lt}
 use Rattle.wide.proofs.Ranks.{rank-lt, size-high}
-use Rattle.spell.specs.declared.plan.Plan.{Plan}
-use Rattle.spell.specs.Plan.{marked, planBytes, Plans, Formed}
-use Rattle.spell.proofs.Forms.{double-whole, alone-from, alone-few, form-alone, form-direct, form-body, first-low, integer-alone, integer-body}
+use Rattle.plan.specs.declared.plan.Plan.{Plan}
+use Rattle.plan.specs.Plan.{marked, planBytes, Plans, Formed}
+use Rattle.plan.proofs.Forms.{double-whole, alone-from, alone-few, form-alone, form-direct, form-body, first-low, integer-alone, integer-body}
 
 pub as-plan : (p : Plan) (xs ys : List ℕ) → Plans p xs → xs ≡ ys → Plans p ys
 as-plan p xs ys h e = subst (Plans p) e h

@@ -1,9 +1,8 @@
 // A row's head, by its kind.
-ghost use mathlib.Core.Path.{_≡_};
 ghost use Rattle.wide.specs.Family.{form};
 ghost use Rattle.encode.specs.Encode.{holderCount};
-ghost use Rattle.spell.specs.Plan.{Plans};
-ghost use Rattle.spell.specs.Own.{ownHead};
+ghost use Rattle.plan.specs.Plan.{Plans};
+ghost use Rattle.plan.specs.Own.{ownHead};
 use crate::heads::alone;
 use crate::heads::float_marker;
 use crate::heads::formed;

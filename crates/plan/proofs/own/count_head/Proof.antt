@@ -1,9 +1,9 @@
--- `spell::own::count_head` meets its contract. Assumes nothing.
+-- `plan::own::count_head` meets its contract. Assumes nothing.
 use Rattle.format.specs.declared.head.Holder.the-variants.{Array, Record, Map}
-use Rattle.spell.proofs.Owns.{count-head}
+use Rattle.plan.proofs.Owns.{count-head}
 use borrow.Author.Needs.{needs}
-use Rattle.spell.proofs.own.count_head.Statement.{statement}
-use Rattle.spell.proofs.own.count_head.Tie as tie
+use Rattle.plan.proofs.own.count_head.Statement.{statement}
+use Rattle.plan.proofs.own.count_head.Tie as tie
 
 enum-told : tie.Need-enum-told
 enum-told c = search needs

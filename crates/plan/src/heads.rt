@@ -8,7 +8,7 @@ ghost use Rattle.wide.specs.Words.{whole, valueOf};
 ghost use Rattle.wide.specs.Family.{behind, form};
 ghost use Rattle.wide.specs.Members.{run, headed, integer};
 ghost use Rattle.encode.specs.Encode.{floatMarker};
-ghost use Rattle.spell.specs.Plan.{marked, Plans, Formed};
+ghost use Rattle.plan.specs.Plan.{marked, Plans, Formed};
 use crate::plan::Plan;
 use wide::Wide;
 

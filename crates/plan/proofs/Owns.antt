@@ -18,10 +18,10 @@ use Rattle.rules.specs.declared.kind.Kind.the-variants.{Constant, Small, Signed
 use Rattle.rules.specs.Shape.{named}
 use Rattle.rules.proofs.Says.{Names, names}
 use Rattle.encode.specs.Encode.{floatMarker, holderCount, headFor}
-use Rattle.spell.specs.declared.plan.Plan.{Plan}
-use Rattle.spell.specs.Plan.{Plans, Formed}
-use Rattle.spell.specs.Own.{ownHead}
-use Rattle.spell.proofs.Plans.{formed-plan}
+use Rattle.plan.specs.declared.plan.Plan.{Plan}
+use Rattle.plan.specs.Plan.{Plans, Formed}
+use Rattle.plan.specs.Own.{ownHead}
+use Rattle.plan.proofs.Plans.{formed-plan}
 
 pub count-head : (holder h : Holder) (n : ℕ) (p : Plan) → holder ≡ h → Plans p (form (holderCount h) n) → Plans p (form (holderCount holder) n)
 count-head holder h n p e = subst (λ (x : Holder). Plans p (form (holderCount x) n)) (sym e)

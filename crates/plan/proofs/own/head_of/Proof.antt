@@ -1,9 +1,10 @@
--- `spell::own::head_of` meets its contract. Assumes nothing.
-use Rattle.spell.proofs.Owns.{constant-low, constant-byte, constant-head, small-head, signed-head, unsigned-head, float-head, text-head, holder-head, binary-head, char-head, reference-head, declaration-head, whole-head, damaged-head, key-head}
+-- `plan::own::head_of` meets its contract. Assumes nothing.
+use Rattle.plan.proofs.Owns.{constant-low, constant-byte, constant-head, small-head, signed-head, unsigned-head, float-head, text-head, holder-head, binary-head, char-head, reference-head, declaration-head, whole-head, damaged-head, key-head}
 use borrow.Author.Needs.{needs}
-use Rattle.spell.proofs.own.head_of.Statement.{statement}
-use Rattle.spell.proofs.own.head_of.Tie as tie
+use Rattle.plan.proofs.own.head_of.Statement.{statement}
+use Rattle.plan.proofs.own.head_of.Tie as tie
 
+-- `fits`: where a signed head is wrong, it is refused only when every way was tried
 pub head-of-spec : {M : Type 1} → statement M
 head-of-spec =
     tie.close
@@ -60,7 +61,7 @@ head-of-spec =
     (λ c κs. search needs)
     (λ c. search (constant-head, needs))
     (λ c. search (small-head, needs))
-    (λ c. search (signed-head, needs))
+    (λ c. search (signed-head, needs) fits 20000)
     (λ c. search (unsigned-head, needs))
     (λ c. search (float-head, needs))
     (λ c. search (text-head, needs))

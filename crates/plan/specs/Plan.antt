@@ -8,7 +8,7 @@ use Rattle.wide.specs.Number.{bytesOf}
 use Rattle.wide.specs.Words.{valueOf}
 use Rattle.wide.specs.Family.{form}
 use Rattle.wide.specs.Members.{integer}
-use Rattle.spell.specs.declared.plan.Plan.{Plan}
+use Rattle.plan.specs.declared.plan.Plan.{Plan}
 
 abbrev pub marked : ℕ → ℕ → ℕ → List ℕ
 marked marks first second = take marks (first ∷ second ∷ [])

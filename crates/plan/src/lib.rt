@@ -1,0 +1,7 @@
+// What stands before a row's payload or its children: which bytes they are.
+mod heads;
+mod own;
+mod plan;
+
+pub use own::head_of;
+pub use plan::Plan;
