@@ -1,12 +1,16 @@
 -- A value position, its children and a declaration, a law for each way out of the code. Assumes nothing.
 use mathlib.Core.Path.{_≡_, refl, sym, ap, ap₂, _∙_, subst}
-use mathlib.Core.Bool.{Bool, true, false}
+use mathlib.Core.Bool.{Bool, true, false, _&&_}
 use mathlib.Core.List.{List, []}
 use Prim.Native.Nat.{ℕ, zero, suc, _+_, _-_, _≤_, _<_}
 use native.Mathlib.Omega.{arith}
+use mir.Val.{Fits}
+use mir.Syntax.{w64}
+use lib.Dec.{ltb}
+use Rattle.lists.proofs.Tests.{and-first, and-second}
 use native.Mathlib.Nat.{sub-zero, add-zero, zero-add}
 use lib.ListN.{length}
-use borrow.Author.Tests.{lt-ltb, le-ltb}
+use borrow.Author.Tests.{lt-ltb, le-ltb, ltb-true, eq-eqb, eqb-true}
 use Rattle.rows.specs.declared.row.Row.{Row}
 use Rattle.rows.specs.Table.{rowAt, lent, limit}
 use Rattle.registry.specs.Registry.{chain, firstIn, Based, baseOf}
@@ -27,7 +31,7 @@ use Rattle.rules.proofs.Says.{Says, says}
 use Rattle.rules.proofs.Growth.{Grew, Sound, item-sound, grow-sound}
 use Rattle.checker.specs.declared.grown.Grown.{Grown}
 use Rattle.checker.specs.declared.grown.Grown.the-variants.{Up, Not}
-use Rattle.checker.specs.Safe.{Safe, SafeAll, BasedAll, grownOf, grownAll, endingAt}
+use Rattle.checker.specs.Safe.{Safe, SafeAll, BasedAll, alone, standsAlone, grownOf, grownAll, endingAt}
 use Rattle.checker.proofs.Leaves.{ends-grown}
 
 -- ---- one value position
@@ -56,6 +60,41 @@ module _ (d : ℕ) (table : List ℕ) (n : ℕ) (s : List ℕ) (registry : List 
   value-in w x g r left h q e f j =
       let p : suc (d - 1) ≡ d = omega arith in
       subst (λ (y : ℕ). r ≡ grownOf (grow y table n s registry row)) p (j ∙ ap (endingAt (w .end)) f ∙ sym (grow-row (d - 1) table n s registry row w x h q e))
+
+-- a leaf that ends behind itself
+module _ (d : ℕ) (table : List ℕ) (n : ℕ) (s : List ℕ) (row : ℕ) (b : Bool) (is : b ≡ standsAlone table n s row) (t : b ≡ true) where
+  abbrev W : Row
+  W = rowAt table row
+
+  abbrev X : Shape
+  X = shapeOf s (W .kind) (W .w0) (W .w1) (W .w2) (W .w3)
+
+  stands : ltb row n && alone X row (W .end) ≡ true
+  unfolding standsAlone
+  stands = sym is ∙ t
+
+  alone-here : row < n
+  alone-here = ltb-true row n (and-first (ltb row n) (alone X row (W .end)) stands)
+
+  pub alone-fits : n ≤ limit → Fits w64 (row + 1)
+  alone-fits few = omega (arith, alone-here)
+
+  alone-is : (x : Shape) → alone x row (W .end) ≡ true → (x ≡ Leaf) × (W .end ≡ row + 1)
+  alone-is Bad e = absurd (let z : _≡_ {A = ℕ} 0 1 = cc in omega arith)
+  alone-is Leaf e = (refl, eqb-true (W .end) (row + 1) e)
+  alone-is Refer e = absurd (let z : _≡_ {A = ℕ} 0 1 = cc in omega arith)
+  alone-is (Hold h) e = absurd (let z : _≡_ {A = ℕ} 0 1 = cc in omega arith)
+  alone-is Declare e = absurd (let z : _≡_ {A = ℕ} 0 1 = cc in omega arith)
+  alone-is Whole e = absurd (let z : _≡_ {A = ℕ} 0 1 = cc in omega arith)
+  alone-is Damaged e = absurd (let z : _≡_ {A = ℕ} 0 1 = cc in omega arith)
+
+  pub value-alone : (registry : List ℕ) → 0 < d → Up (row + 1) ≡ grownOf (grow d table n s registry row)
+  unfolding byShape
+  value-alone registry left =
+      let l = alone-is X (and-second (ltb row n) (alone X row (W .end)) stands) in
+      value-in d table n s registry row W X (Up (row + 1)) (Up (row + 1)) (λ z. absurd (let q : ⊥ = omega arith in q)) alone-here refl refl
+      (ap (λ (x : Shape). grownOf (byShape (grow (d - 1) table n s) (d - 1) table n s registry row W x)) (sym (l .0)))
+      (rw (eq-eqb (row + 1) (W .end) (sym (l .1))))
 
 -- ---- a row by its shape; d levels are left below it
 
@@ -126,6 +165,12 @@ damaged-inside s w x is e = subst (Says s (w .kind) (w .w0) (w .w1) (w .w2) (w .
 -- ---- what a call asks
 
 module _ (table : List ℕ) (n first k row : ℕ) (safe : Safe table n first k row) where
+  pub safe-room : n ≤ lent table
+  safe-room = safe .room
+
+  pub safe-few : n ≤ limit
+  safe-few = safe .few
+
   pub safe-lent : row ≤ lent table
   safe-lent = omega (arith, safe .room, safe .here)
 
@@ -174,6 +219,10 @@ module _ (d : ℕ) (table : List ℕ) (n : ℕ) (s : List ℕ) (row first k : �
     pub child-key : b ≡ true → r ≡ grownOf (growKey table n s row) → r ≡ I
     unfolding item
     child-key t f = rw (← e, t) f
+
+    pub child-alone : b ≡ false → (q : Bool) → q ≡ standsAlone table n s row → q ≡ true → 0 < d → r ≡ Up (row + 1) → r ≡ I
+    unfolding item
+    child-alone t q is y left f = rw (← e, t) (f ∙ value-alone d table n s row q is y (chain table first (inForce c k i)) left)
 
     pub child-value : b ≡ false → (m : ℕ) → m ≡ inForce c k i → r ≡ grownOf (grow d table n s (chain table first m) row) → r ≡ I
     unfolding item

@@ -18,11 +18,13 @@ use Rattle.format.specs.Value.{Reading, right, wrong, inForeign, value, whole}
 use Rattle.measure.specs.declared.measured.Measured.{Measured}
 use Rattle.measure.specs.declared.measured.Measured.the-variants as measured
 use Rattle.measure.specs.Measured.{measuredOf}
-use Rattle.rules.specs.Shape.{spelt}
+use Rattle.rules.specs.declared.shape.Shape.{Shape}
+use Rattle.rules.specs.declared.shape.Shape.the-variants.{Leaf}
+use Rattle.rules.specs.Shape.{spelt, shapeOf}
 use Rattle.rules.specs.Grow.{Growth, grew, bad, endsAt, leafAt, keyRow, growKey, referred, damaged}
 use Rattle.checker.specs.declared.grown.Grown.{Grown}
 use Rattle.checker.specs.declared.grown.Grown.the-variants.{Up, Not}
-use Rattle.checker.specs.Safe.{grownOf, endingAt}
+use Rattle.checker.specs.Safe.{alone, standsAlone, grownOf, endingAt}
 use Rattle.format.specs.Refusal.{numberOf as refusalNumber}
 
 -- ---- where a row ends
@@ -65,6 +67,21 @@ key-in table n s row w r h q e = rw (lt-ltb row n h, ← q) e
 pub key-out : (table : List ℕ) (n : ℕ) (s : List ℕ) (row : ℕ) → n ≤ row → Not ≡ grownOf (growKey table n s row)
 unfolding growKey
 key-out table n s row h = rw (le-ltb row n h)
+
+-- ---- a leaf that ends behind itself
+
+pub alone-leaf : (x : Shape) (row end e : ℕ) → x ≡ Leaf → e ≡ end → eqb e (row + 1) ≡ alone x row end
+alone-leaf x row end e q f = rw (q, f)
+
+module _ (table : List ℕ) (n : ℕ) (s : List ℕ) (row : ℕ) where
+  pub alone-out : n ≤ row → false ≡ standsAlone table n s row
+  unfolding standsAlone
+  alone-out h = rw (le-ltb row n h)
+
+  pub alone-in : (w : Row) (x : Shape) (r : Bool) → row < n → w ≡ rowAt table row → x ≡ shapeOf s (w .kind) (w .w0) (w .w1) (w .w2) (w .w3) → r ≡ alone x row (w .end)
+      → r ≡ standsAlone table n s row
+  unfolding standsAlone
+  alone-in w x r h q e f = rw (lt-ltb row n h, ← q, ← e) f
 
 -- ---- a reference
 

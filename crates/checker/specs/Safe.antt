@@ -1,14 +1,17 @@
 -- What the functions of the check ask and answer. Assumes nothing: these are definitions, and they are cited inside the crate only.
 use mathlib.Core.Path.{_≡_}
-use Prim.Native.Nat.{ℕ, _≤_, _<_}
-use mathlib.Core.Bool.{true, cond}
+use Prim.Native.Nat.{ℕ, _+_, _≤_, _<_}
+use mathlib.Core.Bool.{Bool, true, false, cond, _&&_}
 use mathlib.Core.List.{List}
-use lib.Dec.{eqb}
-use Rattle.rows.specs.Table.{lent, limit}
+use lib.Dec.{ltb, eqb}
+use Rattle.rows.specs.Table.{rowAt, lent, limit}
 use Rattle.registry.specs.Registry.{walk, Below, Based}
 use Rattle.format.specs.declared.head.Children.{Children}
 use Rattle.format.specs.Value.{inForce}
 use Rattle.format.specs.Layout.{isEntry}
+use Rattle.rules.specs.declared.shape.Shape.{Shape}
+use Rattle.rules.specs.declared.shape.Shape.the-variants.{Bad, Leaf, Refer, Hold, Declare, Whole, Damaged}
+use Rattle.rules.specs.Shape.{shapeOf}
 use Rattle.rules.specs.Grow.{Growth, grew, bad, Growths, grewAll, badAll}
 use Rattle.checker.specs.declared.grown.Grown.{Grown}
 use Rattle.checker.specs.declared.grown.Grown.the-variants.{Up, Not}
@@ -29,6 +32,21 @@ pub record SafeAll (table : List ℕ) (n first k : ℕ) (c : Children) (i row : 
 pub record BasedAll (table : List ℕ) (base k : ℕ) (c : Children) : Type 0 where
   pub based : Based table base k
   pub walked : (isEntry c ≡ true → base < 4294967296)
+
+-- whether a row of that shape has no child and ends behind itself
+abbrev pub alone : Shape → ℕ → ℕ → Bool
+alone Bad row end = false
+alone Leaf row end = eqb end (row + 1)
+alone Refer row end = false
+alone (Hold holder) row end = false
+alone Declare row end = false
+alone Whole row end = false
+alone Damaged row end = false
+
+-- such a row stands at `row`
+unfoldable pub standsAlone : List ℕ → ℕ → List ℕ → ℕ → Bool
+standsAlone table n s row =
+    ltb row n && alone (shapeOf s (rowAt table row .kind) (rowAt table row .w0) (rowAt table row .w1) (rowAt table row .w2) (rowAt table row .w3)) row (rowAt table row .end)
 
 -- what is told of a growth: the row behind it
 abbrev pub grownOf : Growth → Grown

@@ -6,11 +6,12 @@ ghost use Rattle.rows.specs.Table.{lent, limit};
 ghost use Rattle.registry.specs.Registry.{chain, Below, firstIn, Based};
 ghost use Rattle.format.specs.Value.{inForeign, value, whole, wrong};
 ghost use Rattle.rules.specs.Grow.{keyRow, growKey, referred, damaged};
-ghost use Rattle.checker.specs.Safe.{grownOf, endingAt};
+ghost use Rattle.checker.specs.Safe.{alone, standsAlone, grownOf, endingAt};
 use crate::grown::Grown;
 use format::Refusal;
 use measure::Measured;
 use rows::Row;
+use rules::Shape;
 
 // A row ends where what it holds does.
 pub fn ends_at(end: u32, g: Grown) -> Grown
@@ -50,6 +51,34 @@ pub fn check_key(table: &[u32], n: usize, s: &[u8], row: usize) -> Grown
         return key_row(s, row, rows::row_at(table, row));
     }
     Grown::Not
+}
+
+// Whether a row of that shape, with that end, has no child and ends behind itself.
+fn is_alone(shape: Shape, row: usize, end: u32) -> bool
+    requires { ⌜ row < limit ⌝ }
+    ensures { λ r. ⌜ r ≡ alone shape row end ⌝ }
+{
+    match shape {
+        Shape::Bad => false,
+        Shape::Leaf => rows::number(end) == row + 1,
+        Shape::Refer => false,
+        Shape::Hold { holder: _ } => false,
+        Shape::Declare => false,
+        Shape::Whole => false,
+        Shape::Damaged => false,
+    }
+}
+
+// Whether such a row stands at `row`: nothing more is asked of it, so that no call of check_value is made for the rows that are met most.
+pub fn stands_alone(table: &[u32], n: usize, s: &[u8], row: usize) -> bool
+    requires { ⌜ (n ≤ lent (now table)) × (n ≤ limit) ⌝ }
+    ensures { λ r. ⌜ r ≡ standsAlone (now (table .entry)) n (now (s .entry)) row ⌝ }
+{
+    if n <= row {
+        return false;
+    }
+    let w = rows::row_at(table, row);
+    is_alone(rules::shape_of(s, w), row, w.end)
 }
 
 // A reference: its entry is in force, and stands at the row that it says.

@@ -14,6 +14,7 @@ use crate::one::check_damaged;
 use crate::one::check_key;
 use crate::one::check_reference;
 use crate::one::ends_at;
+use crate::one::stands_alone;
 use format::Children;
 use rows::Row;
 use rules::Shape;
@@ -125,6 +126,11 @@ fn check_child(
 {
     if children.is_key(i) {
         return check_key(table, n, s, row);
+    }
+    if 0 < levels {
+        if stands_alone(table, n, s, row) {
+            return Grown::Up { next: row + 1 };
+        }
     }
     check_value(table, n, s, row, levels, base, children.in_force(around, i))
 }

@@ -2,7 +2,7 @@
 -- level the way from a row to its children to one child. A law of Checks answers each way out. Assumes nothing.
 use Prim.Native.Nat.{ℕ, _+_, _*_, _-_, _<_}
 use borrow.Author.Needs.{needs}
-use Rattle.checker.proofs.Checks.{child-asks, child-based, child-key, child-value, damaged-inside, declared-not, declared-up, entries-ask, entries-based, going-all, going-first, going-next, going-not, going-safe, Going, hold-asks, hold-based, own-asks, own-based, own-under, row-bad, row-damaged, row-declare, row-hold, row-leaf, row-refer, row-whole, safe-lent, value-deep, value-based, value-in, value-out, whole-asks, whole-based}
+use Rattle.checker.proofs.Checks.{alone-fits, child-alone, child-asks, child-based, child-key, child-value, damaged-inside, declared-not, declared-up, entries-ask, entries-based, going-all, going-first, going-next, going-not, going-safe, Going, hold-asks, hold-based, own-asks, own-based, own-under, row-bad, row-damaged, row-declare, row-hold, row-leaf, row-refer, row-whole, safe-few, safe-lent, safe-room, value-deep, value-based, value-in, value-out, whole-asks, whole-based}
 use borrow.Fn.Kinds.{In}
 use borrow.Fn.PlainCycle.{Measures, is, falls, and}
 use Rattle.checker.proofs.value.check_child.Reads as check-child
@@ -24,6 +24,7 @@ use Rattle.checker.proofs.one.check_damaged.Reads as check-damaged-read
 use Rattle.checker.proofs.one.check_key.Reads as check-key-reads
 use Rattle.checker.proofs.one.check_reference.Reads as check-reference-reads
 use Rattle.checker.proofs.one.ends_at.Reads as ends-at-reads
+use Rattle.checker.proofs.one.stands_alone.Reads as stands-alone-reads
 use Rattle.registry.specs.Registry.{firstIn}
 use Rattle.registry.proofs.base_of.Reads as base-of-reads
 use Rattle.format.proofs.head.Children.in_force.Reads as in-force-reads
@@ -131,6 +132,8 @@ pub +check-child+check-children+check-declared+check-row+check-value-spec :
       is-key-reads.Learnt,
       check-key-reads.Asked,
       check-key-reads.Learnt,
+      stands-alone-reads.Asked,
+      stands-alone-reads.Learnt,
       in-force-reads.Asked,
       in-force-reads.Learnt,
       check-value-below t,
@@ -141,6 +144,9 @@ pub +check-child+check-children+check-declared+check-row+check-value-spec :
     (λ c κs. search needs)
     (λ c κs. search needs)
     (λ c. search child-key)
+    (λ c κs. (search safe-room, search safe-few))
+    (λ c. search alone-fits)
+    (λ c. search child-alone)
     (λ c κs. search needs)
     (λ c κs. (search needs, (search child-asks, search value-based)))
     (λ c. search child-value))
