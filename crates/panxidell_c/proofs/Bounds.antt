@@ -1,6 +1,6 @@
--- What is packed or laid fits: a number in 8 bits, the number beside it in 56, a row in 24, a bound and a word of a list in 32. Laws over the
--- definitions alone; where a word of the table is handed on, it has to be one of 32 bits. Assumes nothing.
-use mathlib.Core.Path.{_≡_, refl, sym, ap, subst, _∙_}
+-- What the library answers can be packed: the number beside it is below 2 ^ 56, a row below 2 ^ 24, a bound and a word of a list below 2 ^ 32.
+-- Laws over the definitions alone; where a word of the table is handed on, it has to be one of 32 bits. Assumes nothing.
+use mathlib.Core.Path.{_≡_, refl, sym, ap, subst}
 use mathlib.Core.Bool.{Bool, true, false, cond, _&&_}
 use mathlib.Core.List.{List, [], _∷_}
 use Prim.Native.Nat.{ℕ, zero, suc, _+_, _*_, _^_, _≤_, _<_}
@@ -8,19 +8,18 @@ use native.Mathlib.Omega.{arith}
 use lib.ListN.{length, getD}
 use lib.Dec.{leb, ltb, eqb}
 use borrow.Author.Tests.{leb-true, ltb-true}
-use mir.Syntax.{w32, w64}
+use mir.Syntax.{w32}
 use mir.Val.{Fits}
 use Rattle.lists.proofs.Tests.{and-first, and-second}
 use Rattle.wide.specs.declared.wide.Wide.{Wide}
 use Rattle.wide.specs.declared.answer.Read.{Read}
-use Rattle.wide.specs.declared.answer.Read.the-variants.{Got, Short}
 use Rattle.wide.specs.declared.answer.Written.{Written as Coded}
 use Rattle.wide.specs.declared.answer.Written.the-variants as codes
 use Rattle.wide.specs.Words.{valueOf, words}
 use Rattle.wide.specs.Body.{sizeAt}
 use Rattle.wide.specs.Family.{Family, Coded as Form, is, short, other, behind, hasByte, longer, body, unmarked, marked, coded, form}
 use Rattle.wide.specs.Members.{variable, signed, unsigned}
-use Rattle.wide.specs.Answer.{readAs, readOf, readNumber, readUsed, writtenOf, outputOf, writtenNumber as codedNumber, writtenBeside as codedBeside}
+use Rattle.wide.specs.Answer.{readAs, readOf, readUsed, writtenOf, outputOf, writtenBeside as codedBeside}
 use Rattle.wide.proofs.Wides.{Words}
 use Rattle.wide.proofs.Ranks.{size-high}
 use Rattle.wide.proofs.Families.{cond-case, Takes}
@@ -29,19 +28,19 @@ use Rattle.rows.specs.declared.row.Row.{Row}
 use Rattle.rows.specs.Table.{wordsPerRow, rowAt, lent, limit}
 use Rattle.rows.specs.Kinds.{kindReference}
 use Rattle.format.specs.declared.answer.Answer.{Answer}
-use Rattle.format.specs.declared.answer.Answer.the-variants.{Accepted, TooLong, Refused, Full}
+use Rattle.format.specs.declared.answer.Answer.the-variants.{Accepted, TooLong, Full}
 use Rattle.format.specs.Tree.{size}
 use Rattle.format.specs.Value.{Reading, right, wrong, document}
-use Rattle.format.specs.Answer.{answerFor, answer, answerNumber, answerBeside}
-use Rattle.format.proofs.Values.{verdict-high, document-rows, document-within}
+use Rattle.format.specs.Answer.{answerFor, answer, answerBeside}
+use Rattle.format.proofs.Values.{document-rows, document-within}
 use Rattle.rules.specs.Grow.{rulesHold}
 use Rattle.rules.proofs.Exact.{yes-stands}
 use Rattle.checker.specs.declared.checked.Checked.{Checked}
 use Rattle.checker.specs.declared.checked.Checked.the-variants as checks
-use Rattle.checker.specs.Checked.{checked, checkedNumber, checkedBeside}
+use Rattle.checker.specs.Checked.{checked, checkedBeside}
 use Rattle.writer.specs.declared.written.Written.{Written}
 use Rattle.writer.specs.declared.written.Written.the-variants as writes
-use Rattle.writer.specs.Written.{documentOf, fitted, written, writtenNumber, writtenBeside}
+use Rattle.writer.specs.Written.{documentOf, fitted, written, writtenBeside}
 use Rattle.writer.proofs.Asks.{yes-few}
 use Rattle.walker.specs.declared.standing.Standing.{Standing}
 use Rattle.walker.specs.declared.step.Step.{Step}
@@ -51,45 +50,10 @@ use Rattle.resolve.specs.declared.moved.Move.the-variants as go
 use Rattle.resolve.specs.declared.resolved.Resolved.{Resolved}
 use Rattle.resolve.specs.declared.resolved.Resolved.the-variants as ends
 use Rattle.payload.specs.declared.part.Part.{Part}
-use Rattle.walker.specs.Walk.{genuine, inward, onward, alongside, stepIn, stepOn, stepAlong, stepNumber, stepStanding}
-use Rattle.resolve.specs.Resolve.{moveFrom, moveAt, chased, chase, resolve, resolvedNumber, resolvedRow, resolvedBound, resolvedMoves}
+use Rattle.walker.specs.Walk.{genuine, inward, onward, alongside, stepIn, stepOn, stepAlong}
+use Rattle.resolve.specs.Resolve.{moveFrom, moveAt, chased, chase, resolve}
 use Rattle.payload.specs.Payload.{hasPayload, part, partOf, payloadAt}
-use Rattle.panxidell_c.specs.Packed.{packedStanding, within, Low}
-
--- ---- the numbers of the paper
-
-pub answer-number : (a : Answer) (n : ℕ) → n ≡ answerNumber a → n < 2 ^ 8
-answer-number (Accepted rows) n e = omega arith
-answer-number TooLong n e = omega arith
-answer-number (Refused why place) n e = omega (arith, verdict-high why)
-answer-number (Full needed) n e = omega arith
-
-pub checked-number : (c : Checked) (n : ℕ) → n ≡ checkedNumber c → n < 2 ^ 8
-checked-number (checks.Right rows) n e = omega arith
-checked-number checks.BadTable n e = omega arith
-
-pub written-number : (w : Written) (n : ℕ) → n ≡ writtenNumber w → n < 2 ^ 8
-written-number (writes.Done used) n e = omega arith
-written-number writes.BadTable n e = omega arith
-written-number (writes.TooLarge needed) n e = omega arith
-written-number (writes.NoRoom needed) n e = omega arith
-
-pub coded-number : (w : Coded) (n : ℕ) → n ≡ codedNumber w → n < 2 ^ 8
-coded-number (codes.Done used) n e = omega arith
-coded-number (codes.NoRoom needed) n e = omega arith
-
-pub step-number : (s : Step) (n : ℕ) → n ≡ stepNumber s → n < 2 ^ 8
-step-number (To row bound) n e = omega arith
-step-number NoStep n e = omega arith
-step-number BadTable n e = omega arith
-
-pub resolved-number : (r : Resolved) (n : ℕ) → n ≡ resolvedNumber r → n < 2 ^ 8
-resolved-number (ends.At row bound moves) n e = omega arith
-resolved-number ends.BadTable n e = omega arith
-
-pub read-number : (r : Read) (n : ℕ) → n ≡ readNumber r → n < 2 ^ 8
-read-number (Got value used) n e = omega arith
-read-number Short n e = omega arith
+use Rattle.packing.specs.Packed.{within, Low, Small, Placed}
 
 -- ---- rows and places
 
@@ -107,8 +71,8 @@ beside depth s table =
         (λ _. omega (arith, document-rows depth s t next e))
     of l (wrong e place) q = omega (arith, document-within depth s e place q)
 
-pub answer-beside : (depth : ℕ) (s table : List ℕ) (a : Answer) (b : ℕ) → a ≡ answer depth s table → b ≡ answerBeside a → b < 2 ^ 56
-answer-beside depth s table a b e f = omega (arith, beside depth s table, f ∙ ap answerBeside e)
+pub answer-beside : (depth : ℕ) (s table : List ℕ) (a : Answer) → a ≡ answer depth s table → answerBeside a < 2 ^ 56
+answer-beside depth s table a e = omega (arith, beside depth s table, ap answerBeside e)
 
 checked-rows : (depth : ℕ) (table : List ℕ) (n : ℕ) (s : List ℕ) → checkedBeside (checked depth table n s) ≤ limit
 unfolding checked
@@ -117,8 +81,8 @@ checked-rows depth table n s =
     (λ h. yes-stands depth table n s h .1 .few)
     (λ _. omega arith)
 
-pub checked-beside : (depth : ℕ) (table : List ℕ) (n : ℕ) (s : List ℕ) (c : Checked) (b : ℕ) → c ≡ checked depth table n s → b ≡ checkedBeside c → b < 2 ^ 56
-checked-beside depth table n s c b e f = omega (arith, checked-rows depth table n s, f ∙ ap checkedBeside e)
+pub checked-beside : (depth : ℕ) (table : List ℕ) (n : ℕ) (s : List ℕ) (c : Checked) → c ≡ checked depth table n s → checkedBeside c < 2 ^ 56
+checked-beside depth table n s c e = omega (arith, checked-rows depth table n s, ap checkedBeside e)
 
 -- ---- bytes needed
 
@@ -140,8 +104,8 @@ module _ (depth : ℕ) (table : List ℕ) (fit : (i : ℕ) → getD table i 0 < 
       (small-product n (length (documentOf depth table n s)) (yes-stands depth table n s h .1 .few) (yes-few depth table n s h fit)))
       (λ _. omega arith)
 
-  pub written-beside : (w : Written) (b : ℕ) → w ≡ written depth table n s room → b ≡ writtenBeside w → b < 2 ^ 56
-  written-beside w b e f = omega (arith, written-bytes, f ∙ ap writtenBeside e)
+  pub written-beside : (w : Written) → w ≡ written depth table n s room → writtenBeside w < 2 ^ 56
+  written-beside w e = omega (arith, written-bytes, ap writtenBeside e)
 
 -- ---- standings
 
@@ -216,33 +180,7 @@ module _ (table : List ℕ) (n : ℕ) (at : Standing) (s : Step) where
   pub along-packs : ((i : ℕ) → getD table i 0 < 2 ^ 32) → s ≡ stepAlong table n at → n ≤ limit → Low s
   along-packs fit e few = subst Low (sym e) (along-low table n few at fit)
 
-pub standing-packs : (s : Step) → Low s → packedStanding (stepStanding s) < 2 ^ 56
-unfolding packedStanding
-standing-packs s l = omega (arith, l .row-low, l .bound-low)
-
--- what a standing that packs makes
-module _ (n : ℕ) (few : n ≤ limit) (s : Step) (packs : n ≤ limit → Low s) (at : Standing) (is : at ≡ stepStanding s) where
-  r : at .row < 2 ^ 24
-  r = subst (λ (x : Standing). x .row < 2 ^ 24) (sym is) (packs few .row-low)
-
-  b : at .bound < 2 ^ 32
-  b = subst (λ (x : Standing). x .bound < 2 ^ 32) (sym is) (packs few .bound-low)
-
-  pub row-fits : Fits w64 (at .row * 2 ^ 32)
-  row-fits = omega (arith, r)
-
-  pub standing-fits : Fits w64 (at .row * 2 ^ 32 + at .bound)
-  standing-fits = omega (arith, r, b)
-
-  pub standing-low : at .row * 2 ^ 32 + at .bound < 2 ^ 56
-  standing-low = omega (arith, r, b)
-
 -- ---- resolving
-
-pub record Small (r : Resolved) : Type 0 where
-  pub row-small : resolvedRow r < 2 ^ 32
-  pub bound-small : resolvedBound r < 2 ^ 32
-  pub moves-small : resolvedMoves r < 2 ^ 32
 
 bad-small : Small ends.BadTable
 bad-small = record { row-small = omega arith; bound-small = omega arith; moves-small = omega arith }
@@ -286,21 +224,7 @@ module _ (table : List ℕ) (fit : (i : ℕ) → getD table i 0 < 2 ^ 32) (n row
       (λ h. resolve-small table fit n (leb-true n limit h) row)
       (λ _. bad-small))
 
-module _ (r : Resolved) (small : Small r) (n : ℕ) where
-  pub row-cast : n ≡ resolvedRow r → Fits w32 n
-  row-cast e = omega (arith, small .row-small)
-
-  pub bound-cast : n ≡ resolvedBound r → Fits w32 n
-  bound-cast e = omega (arith, small .bound-small)
-
-  pub moves-cast : n ≡ resolvedMoves r → Fits w32 n
-  moves-cast e = omega (arith, small .moves-small)
-
 -- ---- payloads
-
-pub record Placed (p : Part) : Type 0 where
-  pub place-short : Fits w32 (p .place)
-  pub size-short : Fits w32 (p .size)
 
 front : Placed (part 0 0)
 front = record { place-short = omega arith; size-short = omega arith }
@@ -312,7 +236,7 @@ module _ (table : List ℕ) (fit : (i : ℕ) → getD table i 0 < 2 ^ 32) (row :
       subst Placed (sym e)
       (cond-case Placed (ltb row (lent table)) (partOf (rowAt table row) s) (part 0 0)
       (λ _. cond-case Placed (hasPayload (rowAt table row .kind) && leb (rowAt table row .w0 + rowAt table row .w1) (length s)) (part (rowAt table row .w0) (rowAt table row .w1)) (part 0 0)
-      (λ _. record { place-short = record { fits = fit (wordsPerRow * row + 2) }; size-short = record { fits = fit (wordsPerRow * row + 3) } })
+      (λ _. record { place-short = fit (wordsPerRow * row + 2); size-short = fit (wordsPerRow * row + 3) })
       (λ _. front))
       (λ _. front))
 
@@ -349,11 +273,11 @@ reads-few : (sign : Bool) (s : List ℕ) → readUsed (readOf (variable sign) s)
 unfolding readOf
 reads-few sign s = used-few (coded (variable sign) s) (coded-few sign s)
 
-pub unsigned-used : (s : List ℕ) (r : Read) → r ≡ readOf unsigned s → readUsed r ≤ 17
-unsigned-used s r e = subst (λ (x : Read). readUsed x ≤ 17) (sym e) (reads-few false s)
+pub unsigned-used : (s : List ℕ) (r : Read) → r ≡ readOf unsigned s → readUsed r < 2 ^ 56
+unsigned-used s r e = omega (arith, reads-few false s, ap readUsed e)
 
-pub signed-used : (s : List ℕ) (r : Read) → r ≡ readOf signed s → readUsed r ≤ 17
-signed-used s r e = subst (λ (x : Read). readUsed x ≤ 17) (sym e) (reads-few true s)
+pub signed-used : (s : List ℕ) (r : Read) → r ≡ readOf signed s → readUsed r < 2 ^ 56
+signed-used s r e = omega (arith, reads-few true s, ap readUsed e)
 
 -- what is written is read back, with as many bytes
 form-few : (sign : Bool) (w : Wide) → Words w → length (form (variable sign) (valueOf w)) ≤ 17
@@ -369,11 +293,11 @@ coded-few-bytes sign w room h =
     cond-case (λ (x : Coded). codedBeside x ≤ 17) (leb L room) (codes.Done L) (codes.NoRoom L) (λ _. l) (λ _. l)
 
 module _ (w0 w1 w2 w3 room : ℕ) (h0 : Fits w32 w0) (h1 : Fits w32 w1) (h2 : Fits w32 w2) (h3 : Fits w32 w3) (a : Coded) where
-  few : (sign : Bool) → a ≡ writtenOf (form (variable sign) (valueOf (words w0 w1 w2 w3))) room → codedBeside a ≤ 17
-  few sign e = subst (λ (x : Coded). codedBeside x ≤ 17) (sym e) (coded-few-bytes sign (words w0 w1 w2 w3) room (record { f0 = h0 .fits; f1 = h1 .fits; f2 = h2 .fits; f3 = h3 .fits }))
+  few : (sign : Bool) → a ≡ writtenOf (form (variable sign) (valueOf (words w0 w1 w2 w3))) room → codedBeside a < 2 ^ 56
+  few sign e = omega (arith, coded-few-bytes sign (words w0 w1 w2 w3) room (record { f0 = h0 .fits; f1 = h1 .fits; f2 = h2 .fits; f3 = h3 .fits }), ap codedBeside e)
 
-  pub unsigned-few : a ≡ writtenOf (form unsigned (valueOf (words w0 w1 w2 w3))) room → codedBeside a ≤ 17
+  pub unsigned-few : a ≡ writtenOf (form unsigned (valueOf (words w0 w1 w2 w3))) room → codedBeside a < 2 ^ 56
   unsigned-few = few false
 
-  pub signed-few : a ≡ writtenOf (form signed (valueOf (words w0 w1 w2 w3))) room → codedBeside a ≤ 17
+  pub signed-few : a ≡ writtenOf (form signed (valueOf (words w0 w1 w2 w3))) room → codedBeside a < 2 ^ 56
   signed-few = few true

@@ -1,8 +1,7 @@
 -- What C unpacks of an answer is what the library answers, for every argument: no bit is lost. Assumes nothing.
-use mathlib.Core.Path.{_≡_, refl, ap, _∙_}
+use mathlib.Core.Path.{refl}
 use mathlib.Core.List.{List}
-use Prim.Native.Nat.{ℕ, _/_, _%_, _^_, _≤_, _<_}
-use native.Mathlib.Omega.{arith}
+use Prim.Native.Nat.{ℕ, _^_, _≤_, _<_}
 use lib.ListN.{getD}
 use lib.Dec.{leb}
 use borrow.Author.Tests.{leb-true}
@@ -21,50 +20,25 @@ use Rattle.writer.specs.Written.{written, writtenNumber, writtenBeside}
 use Rattle.walker.specs.declared.standing.Standing.{Standing}
 use Rattle.walker.specs.declared.step.Step.{Step}
 use Rattle.walker.specs.declared.step.Step.the-variants.{BadTable}
-use Rattle.walker.specs.Walk.{stepIn, stepOn, stepAlong, stepNumber, stepStanding}
-use Rattle.panxidell_c.specs.Packed.{packed, packedAnswer, packedChecked, packedWritten, packedCoded, packedStanding, packedStep, within, Low}
-use Rattle.panxidell_c.proofs.Packs.{packed-number, packed-beside, standing-row, standing-bound}
+use Rattle.walker.specs.Walk.{stepIn, stepOn, stepAlong}
+use Rattle.packing.specs.Packed.{packed, packedAnswer, packedChecked, packedWritten, packedCoded, packedStep, within, Low}
+use Rattle.packing.proofs.Unpacks.{Unpacks, unpacks, Steps, steps}
 use Rattle.panxidell_c.proofs.Bounds as bounds
-
--- the top 8 bits are the number, the low 56 the number beside it
-pub record Unpacks (r number beside : ℕ) : Type 0 where
-  pub top : r / 2 ^ 56 ≡ number
-  pub low : r % 2 ^ 56 ≡ beside
-
-unpacks : (number beside : ℕ) → beside < 2 ^ 56 → Unpacks (packed number beside) number beside
-unpacks number beside h = record { top = packed-number number beside h; low = packed-beside number beside h }
 
 pub read-unpacks : (depth : ℕ) (s table : List ℕ)
     → Unpacks (packedAnswer (answer depth s table)) (answerNumber (answer depth s table)) (answerBeside (answer depth s table))
 unfolding packedAnswer
-read-unpacks depth s table = unpacks _ _ (bounds.answer-beside depth s table (answer depth s table) _ refl refl)
+read-unpacks depth s table = unpacks _ _ (bounds.answer-beside depth s table (answer depth s table) refl)
 
 pub check-unpacks : (depth : ℕ) (table : List ℕ) (n : ℕ) (s : List ℕ)
     → Unpacks (packedChecked (checked depth table n s)) (checkedNumber (checked depth table n s)) (checkedBeside (checked depth table n s))
 unfolding packedChecked
-check-unpacks depth table n s = unpacks _ _ (bounds.checked-beside depth table n s (checked depth table n s) _ refl refl)
+check-unpacks depth table n s = unpacks _ _ (bounds.checked-beside depth table n s (checked depth table n s) refl)
 
 pub write-unpacks : (depth : ℕ) (table : List ℕ) → ((i : ℕ) → getD table i 0 < 2 ^ 32) → (n : ℕ) (s : List ℕ) (room : ℕ)
     → Unpacks (packedWritten (written depth table n s room)) (writtenNumber (written depth table n s room)) (writtenBeside (written depth table n s room))
 unfolding packedWritten
-write-unpacks depth table fit n s room = unpacks _ _ (bounds.written-beside depth table fit n s room (written depth table n s room) _ refl refl)
-
--- a step's row and bound too
-pub record Steps (r : ℕ) (s : Step) : Type 0 where
-  pub number : r / 2 ^ 56 ≡ stepNumber s
-  pub row : r % 2 ^ 56 / 2 ^ 32 ≡ stepStanding s .row
-  pub bound : r % 2 ^ 56 % 2 ^ 32 ≡ stepStanding s .bound
-
-steps : (s : Step) → Low s → Steps (packedStep s) s
-unfolding packedStep
-steps s l =
-    let h : packedStanding (stepStanding s) < 2 ^ 56 = bounds.standing-packs s l in
-    let e : packed (stepNumber s) (packedStanding (stepStanding s)) % 2 ^ 56 ≡ packedStanding (stepStanding s) = packed-beside _ _ h in
-    record {
-      number = packed-number _ _ h;
-      row = ap (λ (x : ℕ). x / 2 ^ 32) e ∙ standing-row (stepStanding s) (l .bound-low);
-      bound = ap (λ (x : ℕ). x % 2 ^ 32) e ∙ standing-bound (stepStanding s) (l .bound-low);
-    }
+write-unpacks depth table fit n s room = unpacks _ _ (bounds.written-beside depth table fit n s room (written depth table n s room) refl)
 
 module _ (table : List ℕ) (n : ℕ) (at : Standing) where
   within-steps : (x : Step) → (n ≤ limit → Low x) → Steps (packedStep (within n x BadTable)) (within n x BadTable)
@@ -82,10 +56,10 @@ module _ (table : List ℕ) (n : ℕ) (at : Standing) where
 
 -- variable integers
 pub unsigned-unpacks : (s : List ℕ) → Unpacks (packed (readNumber (readOf unsigned s)) (readUsed (readOf unsigned s))) (readNumber (readOf unsigned s)) (readUsed (readOf unsigned s))
-unsigned-unpacks s = unpacks _ _ (omega (arith, bounds.unsigned-used s (readOf unsigned s) refl))
+unsigned-unpacks s = unpacks _ _ (bounds.unsigned-used s (readOf unsigned s) refl)
 
 pub signed-unpacks : (s : List ℕ) → Unpacks (packed (readNumber (readOf signed s)) (readUsed (readOf signed s))) (readNumber (readOf signed s)) (readUsed (readOf signed s))
-signed-unpacks s = unpacks _ _ (omega (arith, bounds.signed-used s (readOf signed s) refl))
+signed-unpacks s = unpacks _ _ (bounds.signed-used s (readOf signed s) refl)
 
 module _ (w0 w1 w2 w3 room : ℕ) (h0 : Fits w32 w0) (h1 : Fits w32 w1) (h2 : Fits w32 w2) (h3 : Fits w32 w3) where
   abbrev U : Coded
@@ -96,8 +70,8 @@ module _ (w0 w1 w2 w3 room : ℕ) (h0 : Fits w32 w0) (h1 : Fits w32 w1) (h2 : Fi
 
   pub written-unsigned-unpacks : Unpacks (packedCoded U) (codedNumber U) (codedBeside U)
   unfolding packedCoded
-  written-unsigned-unpacks = unpacks _ _ (omega (arith, bounds.unsigned-few w0 w1 w2 w3 room h0 h1 h2 h3 U refl))
+  written-unsigned-unpacks = unpacks _ _ (bounds.unsigned-few w0 w1 w2 w3 room h0 h1 h2 h3 U refl)
 
   pub written-signed-unpacks : Unpacks (packedCoded S) (codedNumber S) (codedBeside S)
   unfolding packedCoded
-  written-signed-unpacks = unpacks _ _ (omega (arith, bounds.signed-few w0 w1 w2 w3 room h0 h1 h2 h3 S refl))
+  written-signed-unpacks = unpacks _ _ (bounds.signed-few w0 w1 w2 w3 room h0 h1 h2 h3 S refl)

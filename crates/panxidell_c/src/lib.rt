@@ -1,26 +1,21 @@
 // The library as C sees it, by the names of include/panxidell.h. A slice is a pointer and a length there.
-mod lay;
-mod pack;
-
 ghost use mathlib.Core.Path.{_≡_};
-ghost use Prim.Native.Nat.{_≤_};
 ghost use lib.ListN.{length};
 ghost use Rattle.wide.specs.Words.{valueOf, words};
 ghost use Rattle.wide.specs.Family.{form};
 ghost use Rattle.wide.specs.Members.{signed, unsigned};
-ghost use Rattle.wide.specs.Answer.{readOf, readUsed, writtenOf, outputOf};
+ghost use Rattle.wide.specs.Answer.{readOf, writtenOf, outputOf};
 ghost use Rattle.format.specs.Answer.{depthLimit, answer, tableAfter};
 ghost use Rattle.checker.specs.Checked.{checked};
 ghost use Rattle.writer.specs.Written.{written, outputAfter};
 ghost use Rattle.walker.specs.Walk.{standing, stepIn, stepOn, stepAlong};
 ghost use Rattle.resolve.specs.Resolve.{resolve};
 ghost use Rattle.payload.specs.Payload.{payloadAt};
-ghost use Rattle.panxidell_c.specs.Packed.{packedAnswer, packedChecked, packedWritten, packedCoded, packedStep, within, listAfter, resolvedWords, packedResolved, partWords, packedPart, readWords, packedRead};
+ghost use Rattle.packing.specs.Packed.{packedAnswer, packedChecked, packedWritten, packedCoded, packedStep, within, listAfter, resolvedWords, packedResolved, partWords, packedPart, readWords, packedRead};
 use resolve::Resolved;
 use rows::Row;
 use walker::Standing;
 use walker::Step;
-use wide::Read;
 use wide::Wide;
 
 // Reads a document into a table.
@@ -29,8 +24,7 @@ pub extern "C" fn panxidell_read(data: &[u8], table: &mut [u32]) -> u64
     ensures { λ r. ⌜ r ≡ packedAnswer (answer depthLimit (now («data» .entry)) (now (table .entry))) ⌝ }
     ensures { λ _. ⌜ now (table .exit) ≡ tableAfter depthLimit (now («data» .entry)) (now (table .entry)) ⌝ }
 {
-    let a = reader::read(data, table);
-    pack::pack(a.number(), a.beside() as u64)
+    packing::answer(reader::read(data, table))
 }
 
 // Whether the first n rows obey the row rules.
@@ -38,8 +32,7 @@ pub extern "C" fn panxidell_read(data: &[u8], table: &mut [u32]) -> u64
 pub extern "C" fn panxidell_check(table: &[u32], n: usize, data: &[u8]) -> u64
     ensures { λ r. ⌜ r ≡ packedChecked (checked depthLimit (now (table .entry)) n (now («data» .entry))) ⌝ }
 {
-    let c = checker::check(table, n, data);
-    pack::pack(c.number(), c.beside() as u64)
+    packing::checked(checker::check(table, n, data))
 }
 
 // Writes the document of the first n rows.
@@ -48,8 +41,7 @@ pub extern "C" fn panxidell_write(table: &[u32], n: usize, data: &[u8], out: &mu
     ensures { λ r. ⌜ r ≡ packedWritten (written depthLimit (now (table .entry)) n (now («data» .entry)) (length (now (out .entry)))) ⌝ }
     ensures { λ _. ⌜ now (out .exit) ≡ outputAfter depthLimit (now (table .entry)) n (now («data» .entry)) (now (out .entry)) ⌝ }
 {
-    let w = writer::write(table, n, data, out);
-    pack::pack(w.number(), w.beside())
+    packing::written(writer::write(table, n, data, out))
 }
 
 // In: to the first child.
@@ -57,7 +49,7 @@ pub extern "C" fn panxidell_write(table: &[u32], n: usize, data: &[u8], out: &mu
 pub extern "C" fn panxidell_in(table: &[u32], n: usize, row: usize, bound: usize) -> u64
     ensures { λ r. ⌜ r ≡ packedStep (within n (stepIn (now (table .entry)) n (standing row bound)) Step.BadTable) ⌝ }
 {
-    pack::pack_step(n, walker::step_in(table, n, Standing { row, bound }))
+    packing::step(n, walker::step_in(table, n, Standing { row, bound }))
 }
 
 // On: to the next child of the same holder.
@@ -65,7 +57,7 @@ pub extern "C" fn panxidell_in(table: &[u32], n: usize, row: usize, bound: usize
 pub extern "C" fn panxidell_on(table: &[u32], n: usize, row: usize, bound: usize) -> u64
     ensures { λ r. ⌜ r ≡ packedStep (within n (stepOn (now (table .entry)) n (standing row bound)) Step.BadTable) ⌝ }
 {
-    pack::pack_step(n, walker::step_on(table, n, Standing { row, bound }))
+    packing::step(n, walker::step_on(table, n, Standing { row, bound }))
 }
 
 // Along: to the entry of a reference.
@@ -73,7 +65,7 @@ pub extern "C" fn panxidell_on(table: &[u32], n: usize, row: usize, bound: usize
 pub extern "C" fn panxidell_along(table: &[u32], n: usize, row: usize, bound: usize) -> u64
     ensures { λ r. ⌜ r ≡ packedStep (within n (stepAlong (now (table .entry)) n (standing row bound)) Step.BadTable) ⌝ }
 {
-    pack::pack_step(n, walker::step_along(table, n, Standing { row, bound }))
+    packing::step(n, walker::step_along(table, n, Standing { row, bound }))
 }
 
 // Resolving, of at most as many rows as a row is packed for.
@@ -92,12 +84,7 @@ pub extern "C" fn panxidell_resolve(table: &[u32], n: usize, row: usize, out: &m
     ensures { λ r. ⌜ r ≡ packedResolved (within n (resolve (now (table .entry)) n row) Resolved.BadTable) (now (out .entry)) ⌝ }
     ensures { λ _. ⌜ now (out .exit) ≡ listAfter (resolvedWords (within n (resolve (now (table .entry)) n row) Resolved.BadTable)) (now (out .entry)) ⌝ }
 {
-    if out.len() < 3 {
-        return pack::pack(13, 3);
-    }
-    let a = resolve_within(table, n, row);
-    lay::lay_three(out, a.row() as u32, a.bound() as u32, a.moves() as u32);
-    pack::pack(a.number(), 0)
+    packing::resolved(out, resolve_within(table, n, row))
 }
 
 // A row's payload: its place and its size into the lent list.
@@ -106,26 +93,7 @@ pub extern "C" fn panxidell_payload(table: &[u32], row: usize, data: &[u8], out:
     ensures { λ r. ⌜ r ≡ packedPart (payloadAt (now (table .entry)) row (now («data» .entry))) (now (out .entry)) ⌝ }
     ensures { λ _. ⌜ now (out .exit) ≡ listAfter (partWords (payloadAt (now (table .entry)) row (now («data» .entry)))) (now (out .entry)) ⌝ }
 {
-    if out.len() < 2 {
-        return pack::pack(13, 2);
-    }
-    let p = payload::payload_at(table, row, data);
-    lay::lay_two(out, p.place as u32, p.size as u32);
-    pack::pack(0, 0)
-}
-
-// What reading a variable integer answered: its four words into the lent list, the bytes used beside the number.
-fn hand_over(a: Read, out: &mut [u32]) -> u64
-    requires { ⌜ readUsed a ≤ 17 ⌝ }
-    ensures { λ r. ⌜ r ≡ packedRead a (now (out .entry)) ⌝ }
-    ensures { λ _. ⌜ now (out .exit) ≡ listAfter (readWords a) (now (out .entry)) ⌝ }
-{
-    if out.len() < 4 {
-        return pack::pack(13, 4);
-    }
-    let w = a.value();
-    lay::lay_four(out, w.w0, w.w1, w.w2, w.w3);
-    pack::pack(a.number(), a.used() as u64)
+    packing::part(out, payload::payload_at(table, row, data))
 }
 
 // The unsigned variable integer at the front of `data`.
@@ -134,7 +102,7 @@ pub extern "C" fn panxidell_read_unsigned(data: &[u8], out: &mut [u32]) -> u64
     ensures { λ r. ⌜ r ≡ packedRead (readOf unsigned (now («data» .entry))) (now (out .entry)) ⌝ }
     ensures { λ _. ⌜ now (out .exit) ≡ listAfter (readWords (readOf unsigned (now («data» .entry)))) (now (out .entry)) ⌝ }
 {
-    hand_over(wide::read_unsigned(data), out)
+    packing::read(out, wide::read_unsigned(data))
 }
 
 // The signed variable integer at the front of `data`.
@@ -143,7 +111,7 @@ pub extern "C" fn panxidell_read_signed(data: &[u8], out: &mut [u32]) -> u64
     ensures { λ r. ⌜ r ≡ packedRead (readOf signed (now («data» .entry))) (now (out .entry)) ⌝ }
     ensures { λ _. ⌜ now (out .exit) ≡ listAfter (readWords (readOf signed (now («data» .entry)))) (now (out .entry)) ⌝ }
 {
-    hand_over(wide::read_signed(data), out)
+    packing::read(out, wide::read_signed(data))
 }
 
 // Four words as an unsigned variable integer, shortest, at the front of `out`.
@@ -158,7 +126,7 @@ pub extern "C" fn panxidell_write_unsigned(
     ensures { λ r. ⌜ r ≡ packedCoded (writtenOf (form unsigned (valueOf (words w0 w1 w2 w3))) (length (now (out .entry)))) ⌝ }
     ensures { λ _. ⌜ now (out .exit) ≡ outputOf (form unsigned (valueOf (words w0 w1 w2 w3))) (now (out .entry)) ⌝ }
 {
-    pack::pack_coded(wide::write_unsigned(out, Wide { w0, w1, w2, w3 }))
+    packing::coded(wide::write_unsigned(out, Wide { w0, w1, w2, w3 }))
 }
 
 // Four words as a signed variable integer, shortest, at the front of `out`.
@@ -167,5 +135,5 @@ pub extern "C" fn panxidell_write_signed(out: &mut [u8], w0: u32, w1: u32, w2: u
     ensures { λ r. ⌜ r ≡ packedCoded (writtenOf (form signed (valueOf (words w0 w1 w2 w3))) (length (now (out .entry)))) ⌝ }
     ensures { λ _. ⌜ now (out .exit) ≡ outputOf (form signed (valueOf (words w0 w1 w2 w3))) (now (out .entry)) ⌝ }
 {
-    pack::pack_coded(wide::write_signed(out, Wide { w0, w1, w2, w3 }))
+    packing::coded(wide::write_signed(out, Wide { w0, w1, w2, w3 }))
 }

@@ -1,7 +1,7 @@
 -- `panxidell_c::panxidell_check` meets its contract. Assumes nothing.
 use borrow.Author.Needs.{needs}
-use Rattle.panxidell_c.proofs.Packs.{checked-packed}
-use Rattle.panxidell_c.proofs.Bounds.{checked-number, checked-beside}
+use Rattle.packing.proofs.Same.{checked-same}
+use Rattle.panxidell_c.proofs.Bounds.{checked-beside}
 use Rattle.panxidell_c.proofs.panxidell_check.Statement.{statement}
 use Rattle.panxidell_c.proofs.panxidell_check.Tie as tie
 
@@ -10,7 +10,5 @@ panxidell-check-spec =
     tie.close
     (tie.spec
     (λ c κs. search needs)
-    (λ c κs. search needs)
-    (λ c κs. search needs)
-    (λ c κs. (search checked-number, search checked-beside))
-    (λ c. search checked-packed))
+    (λ c κs. search checked-beside)
+    (λ c. search checked-same))

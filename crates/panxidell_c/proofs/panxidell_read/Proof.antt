@@ -1,7 +1,7 @@
 -- `panxidell_c::panxidell_read` meets its contract. Assumes nothing.
 use borrow.Author.Needs.{needs}
-use Rattle.panxidell_c.proofs.Packs.{answer-packed}
-use Rattle.panxidell_c.proofs.Bounds.{answer-number, answer-beside}
+use Rattle.packing.proofs.Same.{answer-same}
+use Rattle.panxidell_c.proofs.Bounds.{answer-beside}
 use Rattle.panxidell_c.proofs.panxidell_read.Statement.{statement}
 use Rattle.panxidell_c.proofs.panxidell_read.Tie as tie
 
@@ -10,8 +10,6 @@ panxidell-read-spec =
     tie.close
     (tie.spec
     (λ c κs. search needs)
-    (λ c κs. search needs)
-    (λ c κs. search needs)
-    (λ c κs. (search answer-number, search answer-beside))
+    (λ c κs. search answer-beside)
     (λ c. search needs)
-    (λ c. (search answer-packed, search needs)))
+    (λ c. (search answer-same, search needs)))

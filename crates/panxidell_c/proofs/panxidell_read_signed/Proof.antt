@@ -1,7 +1,7 @@
 -- `panxidell_c::panxidell_read_signed` meets its contract. Assumes nothing.
 use borrow.Author.Needs.{needs}
+use Rattle.packing.proofs.Same.{read-same, read-list}
 use Rattle.panxidell_c.proofs.Bounds.{signed-used}
-use Rattle.panxidell_c.proofs.Lists.{read-same, words-same}
 use Rattle.panxidell_c.proofs.panxidell_read_signed.Statement.{statement}
 use Rattle.panxidell_c.proofs.panxidell_read_signed.Tie as tie
 
@@ -12,4 +12,4 @@ panxidell-read-signed-spec =
     (λ c κs. search needs)
     (λ c κs. search signed-used)
     (λ c. search needs)
-    (λ c. (search read-same, search words-same)))
+    (λ c. (search read-same, search read-list)))

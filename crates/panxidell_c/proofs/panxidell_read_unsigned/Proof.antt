@@ -1,7 +1,7 @@
 -- `panxidell_c::panxidell_read_unsigned` meets its contract. Assumes nothing.
 use borrow.Author.Needs.{needs}
+use Rattle.packing.proofs.Same.{read-same, read-list}
 use Rattle.panxidell_c.proofs.Bounds.{unsigned-used}
-use Rattle.panxidell_c.proofs.Lists.{read-same, words-same}
 use Rattle.panxidell_c.proofs.panxidell_read_unsigned.Statement.{statement}
 use Rattle.panxidell_c.proofs.panxidell_read_unsigned.Tie as tie
 
@@ -12,4 +12,4 @@ panxidell-read-unsigned-spec =
     (λ c κs. search needs)
     (λ c κs. search unsigned-used)
     (λ c. search needs)
-    (λ c. (search read-same, search words-same)))
+    (λ c. (search read-same, search read-list)))

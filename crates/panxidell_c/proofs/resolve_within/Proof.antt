@@ -1,6 +1,6 @@
 -- `panxidell_c::resolve_within` meets its contract. Assumes nothing.
 use borrow.Author.Needs.{needs}
-use Rattle.panxidell_c.proofs.Packs.{resolved-few, resolved-many}
+use Rattle.packing.proofs.Packs.{resolved-few, resolved-many}
 use Rattle.panxidell_c.proofs.resolve_within.Statement.{statement}
 use Rattle.panxidell_c.proofs.resolve_within.Tie as tie
 

@@ -18,7 +18,7 @@ use Rattle.walker.specs.declared.step.Step.the-variants.{BadTable}
 use Rattle.resolve.specs.declared.resolved.Resolved.{Resolved}
 use Rattle.resolve.specs.declared.resolved.Resolved.the-variants as resolved
 use Rattle.walker.specs.Walk.{stepNumber, stepStanding}
-use Rattle.panxidell_c.specs.Packed.{packed, packedAnswer, packedChecked, packedWritten, packedCoded, packedStanding, packedStep, within}
+use Rattle.packing.specs.Packed.{packed, packedAnswer, packedChecked, packedWritten, packedCoded, packedStanding, packedStep, within}
 
 -- ---- no bit is lost
 
@@ -52,28 +52,21 @@ pack-is number beside = omega arith
 
 -- ---- answers
 
-pub answer-packed : (a x : Answer) (n b r : ℕ) → a ≡ x → n ≡ answerNumber a → b ≡ answerBeside a → r ≡ packed n b → r ≡ packedAnswer x
+pub answer-packed : (a : Answer) (n b r : ℕ) → n ≡ answerNumber a → b ≡ answerBeside a → r ≡ packed n b → r ≡ packedAnswer a
 unfolding packedAnswer
-answer-packed a x n b r e f g h = cc
+answer-packed a n b r f g h = cc
 
-pub checked-packed : (a x : Checked) (n b r : ℕ) → a ≡ x → n ≡ checkedNumber a → b ≡ checkedBeside a → r ≡ packed n b → r ≡ packedChecked x
+pub checked-packed : (a : Checked) (n b r : ℕ) → n ≡ checkedNumber a → b ≡ checkedBeside a → r ≡ packed n b → r ≡ packedChecked a
 unfolding packedChecked
-checked-packed a x n b r e f g h = cc
+checked-packed a n b r f g h = cc
 
-pub written-packed : (a x : Written) (n b r : ℕ) → a ≡ x → n ≡ writtenNumber a → b ≡ writtenBeside a → r ≡ packed n b → r ≡ packedWritten x
+pub written-packed : (a : Written) (n b r : ℕ) → n ≡ writtenNumber a → b ≡ writtenBeside a → r ≡ packed n b → r ≡ packedWritten a
 unfolding packedWritten
-written-packed a x n b r e f g h = cc
+written-packed a n b r f g h = cc
 
 pub coded-packed : (a : Coded) (n b r : ℕ) → n ≡ codedNumber a → b ≡ codedBeside a → r ≡ packed n b → r ≡ packedCoded a
 unfolding packedCoded
 coded-packed a n b r f g h = cc
-
--- what is packed of an answer is packed of what it equals
-pub coded-same : (a x : Coded) (r : ℕ) → a ≡ x → r ≡ packedCoded a → r ≡ packedCoded x
-coded-same a x r e f = cc
-
-pub step-same : (n : ℕ) (s x : Step) (r : ℕ) → s ≡ x → r ≡ packedStep (within n s BadTable) → r ≡ packedStep (within n x BadTable)
-step-same n s x r e f = cc
 
 -- ---- n above the limit, and not
 

@@ -11,7 +11,7 @@ use Rattle.wide.specs.Answer.{readNumber, readValue, readUsed}
 use Rattle.payload.specs.declared.part.Part.{Part}
 use Rattle.resolve.specs.declared.resolved.Resolved.{Resolved}
 use Rattle.resolve.specs.Resolve.{resolvedNumber, resolvedRow, resolvedBound, resolvedMoves}
-use Rattle.panxidell_c.specs.Packed.{packed, lentFor, listAfter, resolvedWords, packedResolved, partWords, packedPart, readWords, packedRead}
+use Rattle.packing.specs.Packed.{packed, lentFor, listAfter, resolvedWords, packedResolved, partWords, packedPart, readWords, packedRead}
 
 -- ---- any list
 
@@ -43,12 +43,12 @@ module _ (x : Resolved) (out : List ℕ) where
   unfolding resolvedWords
   resolved-kept h = short-list (resolvedWords x) out h
 
-  module _ (long : 3 ≤ length out) (a : Resolved) (is : a ≡ x) where
-    pub resolved-answer : (n r : ℕ) → n ≡ resolvedNumber a → r ≡ packed n 0 → r ≡ packedResolved x out
+  module _ (long : 3 ≤ length out) where
+    pub resolved-answer : (n r : ℕ) → n ≡ resolvedNumber x → r ≡ packed n 0 → r ≡ packedResolved x out
     unfolding packedResolved resolvedWords
     resolved-answer n r e f = long-answer (resolvedWords x) out (packed (resolvedNumber x) 0) r long cc
 
-    pub resolved-laid : (row bound moves : ℕ) (after : List ℕ) → row ≡ resolvedRow a → bound ≡ resolvedBound a → moves ≡ resolvedMoves a
+    pub resolved-laid : (row bound moves : ℕ) (after : List ℕ) → row ≡ resolvedRow x → bound ≡ resolvedBound x → moves ≡ resolvedMoves x
         → after ≡ sets out 0 (row ∷ bound ∷ moves ∷ []) → after ≡ listAfter (resolvedWords x) out
     unfolding resolvedWords
     resolved-laid row bound moves after e f g h =
@@ -66,16 +66,14 @@ module _ (x : Part) (out : List ℕ) where
   unfolding partWords
   part-kept h = short-list (partWords x) out h
 
-  module _ (long : 2 ≤ length out) (p : Part) (is : p ≡ x) where
+  module _ (long : 2 ≤ length out) where
     pub part-answer : (r : ℕ) → r ≡ packed 0 0 → r ≡ packedPart x out
     unfolding packedPart partWords
     part-answer r e = long-answer (partWords x) out (packed 0 0) r long e
 
-    pub part-laid : (after : List ℕ) → after ≡ sets out 0 (p .place ∷ p .size ∷ []) → after ≡ listAfter (partWords x) out
+    pub part-laid : (after : List ℕ) → after ≡ sets out 0 (x .place ∷ x .size ∷ []) → after ≡ listAfter (partWords x) out
     unfolding partWords
-    part-laid after h =
-        let w : p .place ∷ p .size ∷ [] ≡ partWords x = cc in
-        long-list (partWords x) out after long (h ∙ ap (sets out 0) w)
+    part-laid after h = long-list (partWords x) out after long h
 
 -- ---- four words
 
@@ -96,10 +94,3 @@ module _ (a : Read) (out : List ℕ) where
     pub read-laid : (w : Wide) (after : List ℕ) → w ≡ readValue a → after ≡ sets out 0 (w .w0 ∷ w .w1 ∷ w .w2 ∷ w .w3 ∷ []) → after ≡ listAfter (readWords a) out
     unfolding readWords
     read-laid w after e f = long-list (readWords a) out after long cc
-
--- what is handed over of an answer is handed over of what it equals
-pub read-same : (a x : Read) (out : List ℕ) (r : ℕ) → a ≡ x → r ≡ packedRead a out → r ≡ packedRead x out
-read-same a x out r e f = cc
-
-pub words-same : (a x : Read) (out after : List ℕ) → a ≡ x → after ≡ listAfter (readWords a) out → after ≡ listAfter (readWords x) out
-words-same a x out after e f = cc
