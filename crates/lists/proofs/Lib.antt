@@ -2,3 +2,4 @@
 pub mod Sets
 pub mod Zeros
 pub mod Tests
+pub mod Answers
