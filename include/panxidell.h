@@ -143,21 +143,21 @@ uint64_t panxidell_along(const uint32_t *table, size_t words, size_t n, size_t r
  *   0 (beside it 0): out[0] is that row, out[1] its end, out[2] the moves that led there.
  *   12: a broken move, the n-th move, a row that is not below n, a table of fewer than n rows, or n above PANXIDELL_LIMIT.
  *   out[0..3) are 0.
- *   13, asked first: three is below 3; beside it 3. out is as it was.
+ *   13, whatever else is wrong: three is below 3; beside it 3. out is as it was.
  * What is behind out[0..3) stays as it was. */
 uint64_t panxidell_resolve(const uint32_t *table, size_t words, size_t n, size_t row, uint32_t *out, size_t three);
 
 /* Where a row's payload (kinds 7, 8, 12, 17) lies in data.
  *   0 (beside it 0): out[0] is the place, out[1] the size, and data[place..place + size) the payload. Both are 0 for other kinds, for a row
  *   that is not in the table and for bytes outside the data.
- *   13, asked first: two is below 2; beside it 2. out is as it was.
+ *   13, whatever else is wrong: two is below 2; beside it 2. out is as it was.
  * What is behind out[0..2) stays as it was. */
 uint64_t panxidell_payload(const uint32_t *table, size_t words, size_t row, const uint8_t *data, size_t len, uint32_t *out, size_t two);
 
 /* The variable integer at the front of data. Its value has 128 bits: words4[0] is the low word; two's complement where it is signed.
  *   0: bytes used, 1 to 17. words4[0..4) is the value.
  *   2 (beside it 0): too few bytes. words4[0..4) are 0.
- *   13, asked first: four is below 4; beside it 4. words4 is as it was.
+ *   13, whatever else is wrong: four is below 4; beside it 4. words4 is as it was.
  * What is behind words4[0..4) stays as it was. */
 uint64_t panxidell_read_unsigned(const uint8_t *data, size_t len, uint32_t *words4, size_t four);
 uint64_t panxidell_read_signed(const uint8_t *data, size_t len, uint32_t *words4, size_t four);
