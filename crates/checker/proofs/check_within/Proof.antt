@@ -10,29 +10,17 @@ returns c = search none
 returns-2 : tie.Need-returns-2
 returns-2 c = search many
 
-lent-requires : tie.Need-lent-requires
-lent-requires c κs = search needs
-
 returns-3 : tie.Need-returns-3
 returns-3 c = search unlent
 
 returns-4 : tie.Need-returns-4
 returns-4 c = search long
 
-add-check-value : tie.Need-add-check-value
-add-check-value c = search needs
-
 check-value-requires : tie.Need-check-value-requires
 check-value-requires c κs = (search start-asks, search start-based)
 
-enum-known-g : tie.Need-enum-known-g
-enum-known-g c = search needs
-
 returns-5 : tie.Need-returns-5
 returns-5 c = search right
-
-enum-told : tie.Need-enum-told
-enum-told c = search needs
 
 returns-6 : tie.Need-returns-6
 returns-6 c = search elsewhere
@@ -46,13 +34,13 @@ check-within-spec =
     (tie.spec
     returns
     returns-2
-    lent-requires
+    (λ c κs. search needs)
     returns-3
     returns-4
-    add-check-value
+    (λ c. search needs)
     check-value-requires
-    enum-known-g
+    (λ c. search needs)
     returns-5
-    enum-told
+    (λ c. search needs)
     returns-6
     returns-7)

@@ -6,9 +6,6 @@ use Rattle.feed.proofs.Words.{number-is, number-low}
 use Rattle.feed.proofs.number.Statement.{statement}
 use Rattle.feed.proofs.number.Tie as tie
 
-read-body-requires : tie.Need-read-body-requires
-read-body-requires c κs = search needs
-
 returns : tie.Need-returns
 returns c =
     let a = c .before .before .args in
@@ -19,4 +16,4 @@ returns c =
     )
 
 pub number-spec : {M : Type 1} → statement M
-number-spec = tie.close (tie.spec read-body-requires returns)
+number-spec = tie.close (tie.spec (λ c κs. search needs) returns)

@@ -10,45 +10,18 @@ Inv-loop table n i₀ i = Unit {0}
 abbrev μ-loop : tie.MeasureT-loop
 μ-loop table n i₀ i = n - i
 
-loop-holds : tie.Need-loop-holds Inv-loop μ-loop
-loop-holds c = search needs
-
-lent-requires : tie.Need-lent-requires Inv-loop μ-loop
-lent-requires c κs = search needs
-
-returns : tie.Need-returns Inv-loop μ-loop
-returns c = search needs
-
-row-at-requires : tie.Need-row-at-requires Inv-loop μ-loop
-row-at-requires c κs = search needs
-
-row-requires : tie.Need-row-requires Inv-loop μ-loop
-row-requires c κs = search needs
-
-add-i : tie.Need-add-i Inv-loop μ-loop
-add-i c = search needs
-
-loop-less : tie.Need-loop-less Inv-loop μ-loop
-loop-less c = search needs
-
-loop-again : tie.Need-loop-again Inv-loop μ-loop
-loop-again c = search needs
-
-returns-2 : tie.Need-returns-2 Inv-loop μ-loop
-returns-2 c = search needs
-
 pub table-rows-spec : {M : Type 1} → statement M
 table-rows-spec =
     tie.close
     (tie.spec
     Inv-loop
     μ-loop
-    loop-holds
-    lent-requires
-    returns
-    row-at-requires
-    row-requires
-    add-i
-    loop-less
-    loop-again
-    returns-2)
+    (λ c. search needs)
+    (λ c κs. search needs)
+    (λ c. search needs)
+    (λ c κs. search needs)
+    (λ c κs. search needs)
+    (λ c. search needs)
+    (λ c. search needs)
+    (λ c. search needs)
+    (λ c. search needs))

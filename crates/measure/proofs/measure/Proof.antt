@@ -4,20 +4,8 @@ use borrow.Author.Needs.{needs}
 use Rattle.measure.proofs.measure.Statement.{statement}
 use Rattle.measure.proofs.measure.Tie as tie
 
-add-measure-value : tie.Need-add-measure-value
-add-measure-value c = search needs
-
-measure-value-requires : tie.Need-measure-value-requires
-measure-value-requires c κs = search needs
-
-enum-known-m : tie.Need-enum-known-m
-enum-known-m c = search needs
-
 returns : tie.Need-returns
 returns c = search document-right
-
-enum-known-m-2 : tie.Need-enum-known-m-2
-enum-known-m-2 c = search needs
 
 returns-2 : tie.Need-returns-2
 returns-2 c = search document-extra
@@ -29,10 +17,10 @@ pub measure-spec : {M : Type 1} → statement M
 measure-spec =
     tie.close
     (tie.spec
-    add-measure-value
-    measure-value-requires
-    enum-known-m
+    (λ c. search needs)
+    (λ c κs. search needs)
+    (λ c. search needs)
     returns
-    enum-known-m-2
+    (λ c. search needs)
     returns-2
     returns-3)

@@ -19,15 +19,6 @@ loop-holds c = search (walk-start, needs)
 end-at-requires : tie.Need-end-at-requires Inv-loop μ-loop
 end-at-requires c κs = search walk-lent
 
-number-requires : tie.Need-number-requires Inv-loop μ-loop
-number-requires c κs = search needs
-
-add-i : tie.Need-add-i Inv-loop μ-loop
-add-i c = search needs
-
-loop-less : tie.Need-loop-less Inv-loop μ-loop
-loop-less c = search needs
-
 loop-again : tie.Need-loop-again Inv-loop μ-loop
 loop-again c = search (walk-next, needs)
 
@@ -36,4 +27,4 @@ returns c = search walk-done
 
 pub entry-row-spec : {M : Type 1} → statement M
 entry-row-spec =
-    tie.close (tie.spec Inv-loop μ-loop loop-holds end-at-requires number-requires add-i loop-less loop-again returns)
+    tie.close (tie.spec Inv-loop μ-loop loop-holds end-at-requires (λ c κs. search needs) (λ c. search needs) (λ c. search needs) loop-again returns)

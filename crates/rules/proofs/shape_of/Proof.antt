@@ -4,15 +4,6 @@ use Rattle.rules.proofs.Judged.{shape-yes, shape-no}
 use Rattle.rules.proofs.shape_of.Statement.{statement}
 use Rattle.rules.proofs.shape_of.Tie as tie
 
-named-requires : tie.Need-named-requires
-named-requires c κs = search needs
-
-fits-requires : tie.Need-fits-requires
-fits-requires c κs = search needs
-
-shape-for-requires : tie.Need-shape-for-requires
-shape-for-requires c κs = search needs
-
 returns : tie.Need-returns
 returns c = search shape-yes
 
@@ -21,4 +12,4 @@ returns-2 c = search shape-no
 
 pub shape-of-spec : {M : Type 1} → statement M
 shape-of-spec =
-    tie.close (tie.spec named-requires fits-requires shape-for-requires returns returns-2)
+    tie.close (tie.spec (λ c κs. search needs) (λ c κs. search needs) (λ c κs. search needs) returns returns-2)

@@ -5,59 +5,23 @@ use borrow.Author.Needs.{needs}
 use Rattle.walk_cases.proofs.walk_sized.Statement.{statement}
 use Rattle.walk_cases.proofs.walk_sized.Tie as tie
 
-mul-length : tie.Need-mul-length
-mul-length c = search needs
-
-add-length : tie.Need-add-length
-add-length c = search needs
-
-mul-length-2 : tie.Need-mul-length-2
-mul-length-2 c = search needs
-
-add-length-2 : tie.Need-add-length-2
-add-length-2 c = search needs
-
-returns : tie.Need-returns
-returns c = search needs
-
-slice-relend-prefix-part : tie.Need-slice-relend-prefix-part
-slice-relend-prefix-part c = search needs
-
 slice-aggregate-part : tie.Need-slice-aggregate-part
 slice-aggregate-part c = sym (length-take-le _ _ (search needs))
-
-read-full-requires : tie.Need-read-full-requires
-read-full-requires c κs = search needs
-
-same-length : tie.Need-same-length
-same-length c = search needs
-
-returns-2 : tie.Need-returns-2
-returns-2 c = search needs
-
-walk-requires : tie.Need-walk-requires
-walk-requires c κs = search needs
-
-same-length-2 : tie.Need-same-length-2
-same-length-2 c = search needs
-
-returns-3 : tie.Need-returns-3
-returns-3 c = search needs
 
 pub walk-sized-spec : {M : Type 1} → statement M
 walk-sized-spec =
     tie.close
     (tie.spec
-    mul-length
-    add-length
-    mul-length-2
-    add-length-2
-    returns
-    slice-relend-prefix-part
+    (λ c. search needs)
+    (λ c. search needs)
+    (λ c. search needs)
+    (λ c. search needs)
+    (λ c. search needs)
+    (λ c. search needs)
     slice-aggregate-part
-    read-full-requires
-    same-length
-    returns-2
-    walk-requires
-    same-length-2
-    returns-3)
+    (λ c κs. search needs)
+    (λ c. search needs)
+    (λ c. search needs)
+    (λ c κs. search needs)
+    (λ c. search needs)
+    (λ c. search needs))

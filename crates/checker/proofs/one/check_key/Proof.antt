@@ -4,12 +4,6 @@ use Rattle.checker.proofs.Leaves.{key-in, key-out}
 use Rattle.checker.proofs.one.check_key.Statement.{statement}
 use Rattle.checker.proofs.one.check_key.Tie as tie
 
-row-at-requires : tie.Need-row-at-requires
-row-at-requires c κs = search needs
-
-key-row-requires : tie.Need-key-row-requires
-key-row-requires c κs = search needs
-
 returns : tie.Need-returns
 returns c = search key-in
 
@@ -17,4 +11,4 @@ returns-2 : tie.Need-returns-2
 returns-2 c = search key-out
 
 pub check-key-spec : {M : Type 1} → statement M
-check-key-spec = tie.close (tie.spec row-at-requires key-row-requires returns returns-2)
+check-key-spec = tie.close (tie.spec (λ c κs. search needs) (λ c κs. search needs) returns returns-2)

@@ -5,17 +5,8 @@ use Rattle.checker.proofs.Leaves.{refer-yes, refer-other, refer-out}
 use Rattle.checker.proofs.one.check_reference.Statement.{statement}
 use Rattle.checker.proofs.one.check_reference.Tie as tie
 
-number-requires : tie.Need-number-requires
-number-requires c κs = search needs
-
 entry-in-requires : tie.Need-entry-in-requires
 entry-in-requires c κs = (search needs, search needs, search entry-below, search entry-based)
-
-number-requires-2 : tie.Need-number-requires-2
-number-requires-2 c κs = search needs
-
-add-t11 : tie.Need-add-t11
-add-t11 c = search needs
 
 returns : tie.Need-returns
 returns c = search refer-yes
@@ -30,10 +21,10 @@ pub check-reference-spec : {M : Type 1} → statement M
 check-reference-spec =
     tie.close
     (tie.spec
-    number-requires
+    (λ c κs. search needs)
     entry-in-requires
-    number-requires-2
-    add-t11
+    (λ c κs. search needs)
+    (λ c. search needs)
     returns
     returns-2
     returns-3)

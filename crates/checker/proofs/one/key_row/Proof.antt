@@ -7,15 +7,6 @@ use Rattle.checker.proofs.one.key_row.Tie as tie
 returns : tie.Need-returns
 returns c = search key-other
 
-spelt-requires : tie.Need-spelt-requires
-spelt-requires c κs = search needs
-
-add-t6 : tie.Need-add-t6
-add-t6 c = search needs
-
-ends-at-requires : tie.Need-ends-at-requires
-ends-at-requires c κs = search needs
-
 returns-2 : tie.Need-returns-2
 returns-2 c = search key-yes
 
@@ -24,4 +15,4 @@ returns-3 c = search key-no
 
 pub key-row-spec : {M : Type 1} → statement M
 key-row-spec =
-    tie.close (tie.spec returns spelt-requires add-t6 ends-at-requires returns-2 returns-3)
+    tie.close (tie.spec returns (λ c κs. search needs) (λ c. search needs) (λ c κs. search needs) returns-2 returns-3)

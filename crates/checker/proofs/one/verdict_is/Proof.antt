@@ -4,12 +4,6 @@ use Rattle.checker.proofs.Leaves.{verdict-yes, verdict-no}
 use Rattle.checker.proofs.one.verdict_is.Statement.{statement}
 use Rattle.checker.proofs.one.verdict_is.Tie as tie
 
-number-requires : tie.Need-number-requires
-number-requires c κs = search needs
-
-add-t7 : tie.Need-add-t7
-add-t7 c = search needs
-
 returns : tie.Need-returns
 returns c = search verdict-yes
 
@@ -17,4 +11,4 @@ returns-2 : tie.Need-returns-2
 returns-2 c = search verdict-no
 
 pub verdict-is-spec : {M : Type 1} → statement M
-verdict-is-spec = tie.close (tie.spec number-requires add-t7 returns returns-2)
+verdict-is-spec = tie.close (tie.spec (λ c κs. search needs) (λ c. search needs) returns returns-2)

@@ -7,19 +7,10 @@ use borrow.Author.Needs.{needs}
 use Rattle.heads.proofs.behind.binary.Statement.{statement}
 use Rattle.heads.proofs.behind.binary.Tie as tie
 
-length-at-requires : tie.Need-length-at-requires
-length-at-requires c κs = search needs
-
-enum-known-c : tie.Need-enum-known-c
-enum-known-c c = search needs
-
 bodied-requires : tie.Need-bodied-requires
 bodied-requires c κs =
     let a = c .before .before .before .before .before .args in
     count-within keyLength (a .s .now) (a .from) (a .stop) (c .before .before .before .length-at .result) (c .before .before .before .length-at .ensures) _ _ (c .before .c .given .1)
-
-enum-known-c-2 : tie.Need-enum-known-c-2
-enum-known-c-2 c = search needs
 
 returns : tie.Need-returns
 returns c =
@@ -34,4 +25,4 @@ returns-2 c =
 pub binary-spec : {M : Type 1} → statement M
 binary-spec =
     tie.close
-    (tie.spec length-at-requires enum-known-c bodied-requires enum-known-c-2 returns returns-2)
+    (tie.spec (λ c κs. search needs) (λ c. search needs) bodied-requires (λ c. search needs) returns returns-2)

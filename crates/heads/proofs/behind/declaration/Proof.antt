@@ -6,19 +6,10 @@ use borrow.Author.Needs.{needs}
 use Rattle.heads.proofs.behind.declaration.Statement.{statement}
 use Rattle.heads.proofs.behind.declaration.Tie as tie
 
-length-at-requires : tie.Need-length-at-requires
-length-at-requires c κs = search needs
-
-enum-known-c : tie.Need-enum-known-c
-enum-known-c c = search needs
-
 returns : tie.Need-returns
 returns c =
     let a = c .before .before .before .before .before .before .args in
     declare-none (a .at) _ _ (c .if1 .taken) ∙ ap (declareHead (a .at)) (sym (c .before .before .c .given .1) ∙ c .before .before .before .before .length-at .ensures)
-
-enum-known-c-2 : tie.Need-enum-known-c-2
-enum-known-c-2 c = search needs
 
 returns-2 : tie.Need-returns-2
 returns-2 c =
@@ -32,4 +23,4 @@ returns-3 c =
 
 pub declaration-spec : {M : Type 1} → statement M
 declaration-spec =
-    tie.close (tie.spec length-at-requires enum-known-c returns enum-known-c-2 returns-2 returns-3)
+    tie.close (tie.spec (λ c κs. search needs) (λ c. search needs) returns (λ c. search needs) returns-2 returns-3)

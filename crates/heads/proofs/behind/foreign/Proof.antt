@@ -8,12 +8,6 @@ use borrow.Author.Needs.{needs}
 use Rattle.heads.proofs.behind.foreign.Statement.{statement}
 use Rattle.heads.proofs.behind.foreign.Tie as tie
 
-length-at-requires : tie.Need-length-at-requires
-length-at-requires c κs = search needs
-
-enum-known-c : tie.Need-enum-known-c
-enum-known-c c = search needs
-
 sub-if1 : tie.Need-sub-if1
 sub-if1 c =
     let a = c .before .before .before .before .before .args in
@@ -23,9 +17,6 @@ returns : tie.Need-returns
 returns c =
     let a = c .before .before .before .before .before .before .args in
     foreign-there (a .at) (a .stop) _ _ (c .if1 .taken) ∙ ap (foreignHead (a .at) (a .stop)) (sym (c .before .before .c .given .1) ∙ c .before .before .before .before .length-at .ensures)
-
-enum-known-c-2 : tie.Need-enum-known-c-2
-enum-known-c-2 c = search needs
 
 returns-2 : tie.Need-returns-2
 returns-2 c =
@@ -40,4 +31,4 @@ returns-3 c =
 pub foreign-spec : {M : Type 1} → statement M
 foreign-spec =
     tie.close
-    (tie.spec length-at-requires enum-known-c sub-if1 returns enum-known-c-2 returns-2 returns-3)
+    (tie.spec (λ c κs. search needs) (λ c. search needs) sub-if1 returns (λ c. search needs) returns-2 returns-3)

@@ -4,12 +4,9 @@ use Rattle.format.specs.Head.{keyAt}
 use Rattle.heads.proofs.behind.key_at.Statement.{statement}
 use Rattle.heads.proofs.behind.key_at.Tie as tie
 
-text-requires : tie.Need-text-requires
-text-requires c κs = search needs
-
 returns : tie.Need-returns
 unfolding keyAt
 returns c = c .text .ensures
 
 pub key-at-spec : {M : Type 1} → statement M
-key-at-spec = tie.close (tie.spec text-requires returns)
+key-at-spec = tie.close (tie.spec (λ c κs. search needs) returns)

@@ -5,15 +5,6 @@ use borrow.Author.Needs.{needs}
 use Rattle.heads.proofs.behind.reference.Statement.{statement}
 use Rattle.heads.proofs.behind.reference.Tie as tie
 
-length-at-requires : tie.Need-length-at-requires
-length-at-requires c κs = search needs
-
-enum-known-c : tie.Need-enum-known-c
-enum-known-c c = search needs
-
-enum-known-c-2 : tie.Need-enum-known-c-2
-enum-known-c-2 c = search needs
-
 returns : tie.Need-returns
 returns c =
     let a = c .before .before .before .before .before .args in
@@ -26,4 +17,4 @@ returns-2 c =
 
 pub reference-spec : {M : Type 1} → statement M
 reference-spec =
-    tie.close (tie.spec length-at-requires enum-known-c enum-known-c-2 returns returns-2)
+    tie.close (tie.spec (λ c κs. search needs) (λ c. search needs) (λ c. search needs) returns returns-2)

@@ -4,12 +4,6 @@ use borrow.Author.Needs.{needs}
 use Rattle.heads.proofs.body.bodied.Statement.{statement}
 use Rattle.heads.proofs.body.bodied.Tie as tie
 
-sub-if1 : tie.Need-sub-if1
-sub-if1 c = search needs
-
-add-t8 : tie.Need-add-t8
-add-t8 c = search needs
-
 returns : tie.Need-returns
 returns c = search (body-there, needs)
 
@@ -17,4 +11,4 @@ returns-2 : tie.Need-returns-2
 returns-2 c = search (body-cut, needs)
 
 pub bodied-spec : {M : Type 1} → statement M
-bodied-spec = tie.close (tie.spec sub-if1 add-t8 returns returns-2)
+bodied-spec = tie.close (tie.spec (λ c. search needs) (λ c. search needs) returns returns-2)

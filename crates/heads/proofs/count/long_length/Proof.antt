@@ -6,27 +6,6 @@ use borrow.Author.Needs.{needs}
 use Rattle.heads.proofs.count.long_length.Statement.{statement}
 use Rattle.heads.proofs.count.long_length.Tie as tie
 
-sub-read-unsigned : tie.Need-sub-read-unsigned
-sub-read-unsigned c = search needs
-
-part-read-unsigned-start : tie.Need-part-read-unsigned-start
-part-read-unsigned-start c = search needs
-
-part-read-unsigned-end : tie.Need-part-read-unsigned-end
-part-read-unsigned-end c = search needs
-
-read-unsigned-requires : tie.Need-read-unsigned-requires
-read-unsigned-requires c κs = search needs
-
-enum-known-r : tie.Need-enum-known-r
-enum-known-r c = search needs
-
-within-requires : tie.Need-within-requires
-within-requires c κs = search needs
-
-number-requires : tie.Need-number-requires
-number-requires c κs = search needs
-
 add-t14 : tie.Need-add-t14
 add-t14 c =
     let a = c .before .before .before .before .before .before .before .before .before .args in
@@ -36,9 +15,6 @@ returns : tie.Need-returns
 returns c =
     let a = c .before .before .before .before .before .before .before .before .before .args in
     got-is (a .s .now) (a .at) (a .stop) (λ i. c .before .before .before .before .before .before .before .before .shared-slice-known .given i .fits) _ _ (c .number .result) (c .before .before .within .result) (sym (c .before .before .before .before .r .given .1) ∙ c .before .before .before .before .before .before .read-unsigned .ensures) (c .before .before .within .ensures) (c .before .if1 .taken) (c .number .ensures .0)
-
-enum-told : tie.Need-enum-told
-enum-told c = search needs
 
 returns-2 : tie.Need-returns-2
 returns-2 c =
@@ -54,15 +30,15 @@ pub long-length-spec : {M : Type 1} → statement M
 long-length-spec =
     tie.close
     (tie.spec
-    sub-read-unsigned
-    part-read-unsigned-start
-    part-read-unsigned-end
-    read-unsigned-requires
-    enum-known-r
-    within-requires
-    number-requires
+    (λ c. search needs)
+    (λ c. search needs)
+    (λ c. search needs)
+    (λ c κs. search needs)
+    (λ c. search needs)
+    (λ c κs. search needs)
+    (λ c κs. search needs)
     add-t14
     returns
-    enum-told
+    (λ c. search needs)
     returns-2
     returns-3)

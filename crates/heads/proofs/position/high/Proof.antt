@@ -7,43 +7,22 @@ use borrow.Author.Needs.{needs}
 use Rattle.heads.proofs.position.high.Statement.{statement}
 use Rattle.heads.proofs.position.high.Tie as tie
 
-add-next : tie.Need-add-next
-add-next c = search needs
-
-sub-t8 : tie.Need-sub-t8
-sub-t8 c = search needs
-
 returns : tie.Need-returns
 returns c = search (head-array, needs)
-
-sub-t10 : tie.Need-sub-t10
-sub-t10 c = search needs
 
 returns-2 : tie.Need-returns-2
 returns-2 c = search (head-record, needs)
 
-sub-t12 : tie.Need-sub-t12
-sub-t12 c = search needs
-
 returns-3 : tie.Need-returns-3
 returns-3 c = search (head-map, needs)
 
-char-head-requires : tie.Need-char-head-requires
-char-head-requires c κs = search needs
-
 returns-4 : tie.Need-returns-4
 returns-4 c = search (head-char, needs)
-
-sub-t13 : tie.Need-sub-t13
-sub-t13 c = search needs
 
 returns-5 : tie.Need-returns-5
 returns-5 c =
     let high : 193 ≤ c .before .before .before .before .before .before .args .b = omega arith in
     search (head-refer, needs)
-
-reference-requires : tie.Need-reference-requires
-reference-requires c κs = search needs
 
 returns-6 : tie.Need-returns-6
 returns-6 c =
@@ -54,16 +33,16 @@ pub high-spec : {M : Type 1} → statement M
 high-spec =
     tie.close
     (tie.spec
-    add-next
-    sub-t8
+    (λ c. search needs)
+    (λ c. search needs)
     returns
-    sub-t10
+    (λ c. search needs)
     returns-2
-    sub-t12
+    (λ c. search needs)
     returns-3
-    char-head-requires
+    (λ c κs. search needs)
     returns-4
-    sub-t13
+    (λ c. search needs)
     returns-5
-    reference-requires
+    (λ c κs. search needs)
     returns-6)

@@ -7,27 +7,6 @@ use Rattle.measure.proofs.key.measure_key.Reads as reads
 use Rattle.measure.proofs.key.measure_key.Lts as lts
 use Rattle.heads.proofs.key_at.Reads as key-at-reads
 
-key-at-requires : tie.Need-key-at-requires
-key-at-requires c κs = search needs
-
-enum-known-h : tie.Need-enum-known-h
-enum-known-h c = search needs
-
-enum-known-h-2 : tie.Need-enum-known-h-2
-enum-known-h-2 c = search needs
-
-enum-known-h-3 : tie.Need-enum-known-h-3
-enum-known-h-3 c = search needs
-
-enum-known-h-4 : tie.Need-enum-known-h-4
-enum-known-h-4 c = search needs
-
-enum-known-h-5 : tie.Need-enum-known-h-5
-enum-known-h-5 c = search needs
-
-enum-known-h-6 : tie.Need-enum-known-h-6
-enum-known-h-6 c = search needs
-
 returns : tie.Need-returns
 returns c = search key-leaf
 
@@ -50,13 +29,13 @@ pub measure-key-spec : {M : Type 1} → statement M
 measure-key-spec =
     tie.close
     (tie.spec
-    key-at-requires
-    enum-known-h
-    enum-known-h-2
-    enum-known-h-3
-    enum-known-h-4
-    enum-known-h-5
-    enum-known-h-6
+    (λ c κs. search needs)
+    (λ c. search needs)
+    (λ c. search needs)
+    (λ c. search needs)
+    (λ c. search needs)
+    (λ c. search needs)
+    (λ c. search needs)
     returns
     returns-2
     returns-3

@@ -5,14 +5,11 @@ use borrow.Author.Needs.{needs}
 use Rattle.plan.proofs.own.count_head.Statement.{statement}
 use Rattle.plan.proofs.own.count_head.Tie as tie
 
-enum-told : tie.Need-enum-told
-enum-told c = search needs
-
 pub count-head-spec : {M : Type 1} → statement M
 count-head-spec =
     tie.close
     (tie.spec
-    enum-told
+    (λ c. search needs)
     (λ c κs. search needs)
     (λ c. search needs)
     (λ c κs. search needs)

@@ -16,23 +16,11 @@ loop-holds c = search past-first
 returns : tie.Need-returns Inv-loop μ-loop
 returns c = search past-out
 
-end-at-requires : tie.Need-end-at-requires Inv-loop μ-loop
-end-at-requires c κs = search needs
-
-number-requires : tie.Need-number-requires Inv-loop μ-loop
-number-requires c κs = search needs
-
 returns-2 : tie.Need-returns-2 Inv-loop μ-loop
 returns-2 c = search past-low
 
 returns-3 : tie.Need-returns-3 Inv-loop μ-loop
 returns-3 c = search past-high
-
-sub-left : tie.Need-sub-left Inv-loop μ-loop
-sub-left c = search needs
-
-loop-less : tie.Need-loop-less Inv-loop μ-loop
-loop-less c = search needs
 
 loop-again : tie.Need-loop-again Inv-loop μ-loop
 loop-again c = search past-next
@@ -54,12 +42,12 @@ value-row-spec =
     μ-loop
     loop-holds
     returns
-    end-at-requires
-    number-requires
+    (λ c κs. search needs)
+    (λ c κs. search needs)
     returns-2
     returns-3
-    sub-left
-    loop-less
+    (λ c. search needs)
+    (λ c. search needs)
     loop-again
     returns-4
     returns-5

@@ -5,12 +5,6 @@ use Rattle.lists.proofs.Tests.{and-no, and-yes}
 use Rattle.rules.proofs.words.span.Statement.{statement}
 use Rattle.rules.proofs.words.span.Tie as tie
 
-blank-requires : tie.Need-blank-requires
-blank-requires c κs = search needs
-
-inside-requires : tie.Need-inside-requires
-inside-requires c κs = search needs
-
 returns : tie.Need-returns
 unfolding span
 returns c = search and-yes
@@ -20,4 +14,4 @@ unfolding span
 returns-2 c = search and-no
 
 pub span-spec : {M : Type 1} → statement M
-span-spec = tie.close (tie.spec blank-requires inside-requires returns returns-2)
+span-spec = tie.close (tie.spec (λ c κs. search needs) (λ c κs. search needs) returns returns-2)

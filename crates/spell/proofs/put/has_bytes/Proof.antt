@@ -5,15 +5,12 @@ use borrow.Author.Needs.{needs}
 use Rattle.spell.proofs.put.has_bytes.Statement.{statement}
 use Rattle.spell.proofs.put.has_bytes.Tie as tie
 
-enum-told : tie.Need-enum-told
-enum-told c = search needs
-
 pub has-bytes-spec : {M : Type 1} → statement M
 has-bytes-spec =
     tie.close
     (tie.spec
     (λ c κs. search needs)
-    enum-told
+    (λ c. search needs)
     (λ c. search needs)
     (λ c. search needs)
     (λ c. search needs)

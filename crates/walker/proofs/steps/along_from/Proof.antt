@@ -4,23 +4,14 @@ use Rattle.walker.proofs.Standings.{is-lent, entry-lent, along-none, al
 use Rattle.walker.proofs.steps.along_from.Statement.{statement}
 use Rattle.walker.proofs.steps.along_from.Tie as tie
 
-genuine-requires : tie.Need-genuine-requires
-genuine-requires c κs = search needs
-
 row-at-requires : tie.Need-row-at-requires
 row-at-requires c κs = search is-lent
 
 returns : tie.Need-returns
 returns c = search along-none
 
-number-requires : tie.Need-number-requires
-number-requires c κs = search needs
-
 end-at-requires : tie.Need-end-at-requires
 end-at-requires c κs = search entry-lent
-
-number-requires-2 : tie.Need-number-requires-2
-number-requires-2 c κs = search needs
 
 returns-2 : tie.Need-returns-2
 returns-2 c = search along-yes
@@ -35,12 +26,12 @@ pub along-from-spec : {M : Type 1} → statement M
 along-from-spec =
     tie.close
     (tie.spec
-    genuine-requires
+    (λ c κs. search needs)
     row-at-requires
     returns
-    number-requires
+    (λ c κs. search needs)
     end-at-requires
-    number-requires-2
+    (λ c κs. search needs)
     returns-2
     returns-3
     returns-4)

@@ -4,9 +4,6 @@ use Rattle.walker.proofs.Standings.{few-rows, row-out, bound-low, bound
 use Rattle.walker.proofs.steps.genuine.Statement.{statement}
 use Rattle.walker.proofs.steps.genuine.Tie as tie
 
-lent-requires : tie.Need-lent-requires
-lent-requires c κs = search needs
-
 returns : tie.Need-returns
 returns c = search few-rows
 
@@ -19,12 +16,6 @@ returns-3 c = search bound-low
 returns-4 : tie.Need-returns-4
 returns-4 c = search bound-high
 
-end-at-requires : tie.Need-end-at-requires
-end-at-requires c κs = search needs
-
-number-requires : tie.Need-number-requires
-number-requires c κs = search needs
-
 returns-5 : tie.Need-returns-5
 returns-5 c = search end-low
 
@@ -35,12 +26,12 @@ pub genuine-spec : {M : Type 1} → statement M
 genuine-spec =
     tie.close
     (tie.spec
-    lent-requires
+    (λ c κs. search needs)
     returns
     returns-2
     returns-3
     returns-4
-    end-at-requires
-    number-requires
+    (λ c κs. search needs)
+    (λ c κs. search needs)
     returns-5
     returns-6)

@@ -4,20 +4,11 @@ use Rattle.walker.proofs.Standings.{is-lent, row-fits, in-yes, in-none,
 use Rattle.walker.proofs.steps.in_from.Statement.{statement}
 use Rattle.walker.proofs.steps.in_from.Tie as tie
 
-genuine-requires : tie.Need-genuine-requires
-genuine-requires c κs = search needs
-
 end-at-requires : tie.Need-end-at-requires
 end-at-requires c κs = search is-lent
 
-number-requires : tie.Need-number-requires
-number-requires c κs = search needs
-
 add-if2 : tie.Need-add-if2
 add-if2 c = search row-fits
-
-add-t10 : tie.Need-add-t10
-add-t10 c = search needs
 
 returns : tie.Need-returns
 returns c = search in-yes
@@ -32,11 +23,11 @@ pub in-from-spec : {M : Type 1} → statement M
 in-from-spec =
     tie.close
     (tie.spec
-    genuine-requires
+    (λ c κs. search needs)
     end-at-requires
-    number-requires
+    (λ c κs. search needs)
     add-if2
-    add-t10
+    (λ c. search needs)
     returns
     returns-2
     returns-3)

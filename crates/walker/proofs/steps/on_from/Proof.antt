@@ -4,14 +4,8 @@ use Rattle.walker.proofs.Standings.{is-lent, on-yes, on-none, on-forged
 use Rattle.walker.proofs.steps.on_from.Statement.{statement}
 use Rattle.walker.proofs.steps.on_from.Tie as tie
 
-genuine-requires : tie.Need-genuine-requires
-genuine-requires c κs = search needs
-
 end-at-requires : tie.Need-end-at-requires
 end-at-requires c κs = search is-lent
-
-number-requires : tie.Need-number-requires
-number-requires c κs = search needs
 
 returns : tie.Need-returns
 returns c = search on-yes
@@ -25,4 +19,4 @@ returns-3 c = search on-forged
 pub on-from-spec : {M : Type 1} → statement M
 on-from-spec =
     tie.close
-    (tie.spec genuine-requires end-at-requires number-requires returns returns-2 returns-3)
+    (tie.spec (λ c κs. search needs) end-at-requires (λ c κs. search needs) returns returns-2 returns-3)

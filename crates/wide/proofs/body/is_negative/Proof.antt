@@ -9,8 +9,5 @@ use Rattle.wide.proofs.body.is_negative.Tie as tie
 returns : tie.Need-returns
 returns c = ap (λ (b : Bool). b && leb 128 (c .before .args .top)) (sym (c .if1 .taken))
 
-returns-2 : tie.Need-returns-2
-returns-2 c = search needs
-
 pub is-negative-spec : {M : Type 1} → statement M
-is-negative-spec = tie.close (tie.spec returns returns-2)
+is-negative-spec = tie.close (tie.spec returns (λ c. search needs))

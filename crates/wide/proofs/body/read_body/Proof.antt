@@ -19,21 +19,6 @@ Inv-loop s at size signed last w₀ i₀ w i =
 abbrev μ-loop : tie.MeasureT-loop
 μ-loop s at size signed last w₀ i₀ w i = i
 
-sub-last : tie.Need-sub-last Inv-loop μ-loop
-sub-last c = search needs
-
-add-last : tie.Need-add-last Inv-loop μ-loop
-add-last c = search needs
-
-shared-slice-read-is-negative : tie.Need-shared-slice-read-is-negative Inv-loop μ-loop
-shared-slice-read-is-negative c = search needs
-
-is-negative-requires : tie.Need-is-negative-requires Inv-loop μ-loop
-is-negative-requires c κs = search needs
-
-filled-requires : tie.Need-filled-requires Inv-loop μ-loop
-filled-requires c κs = search needs
-
 loop-holds : tie.Need-loop-holds Inv-loop μ-loop
 loop-holds c =
     let a = c .before .before .before .before .args in
@@ -44,21 +29,6 @@ loop-holds c =
           ∙ ap (λ (b : Bool). wideOf (extended b 0 0)) (c .before .is-negative .ensures)
           ∙ ap wideOf (sym (body-end s (a .at) (a .size) (p .0) (p .1) (p .2) _)),
     )
-
-sub-j : tie.Need-sub-j Inv-loop μ-loop
-sub-j c = search needs
-
-add-shift-in : tie.Need-add-shift-in Inv-loop μ-loop
-add-shift-in c = search needs
-
-shared-slice-read-shift-in : tie.Need-shared-slice-read-shift-in Inv-loop μ-loop
-shared-slice-read-shift-in c = search needs
-
-shift-in-requires : tie.Need-shift-in-requires Inv-loop μ-loop
-shift-in-requires c κs = search needs
-
-loop-less : tie.Need-loop-less Inv-loop μ-loop
-loop-less c = search needs
 
 loop-again : tie.Need-loop-again Inv-loop μ-loop
 loop-again c =
@@ -88,16 +58,16 @@ read-body-spec =
     (tie.spec
     Inv-loop
     μ-loop
-    sub-last
-    add-last
-    shared-slice-read-is-negative
-    is-negative-requires
-    filled-requires
+    (λ c. search needs)
+    (λ c. search needs)
+    (λ c. search needs)
+    (λ c κs. search needs)
+    (λ c κs. search needs)
     loop-holds
-    sub-j
-    add-shift-in
-    shared-slice-read-shift-in
-    shift-in-requires
-    loop-less
+    (λ c. search needs)
+    (λ c. search needs)
+    (λ c. search needs)
+    (λ c κs. search needs)
+    (λ c. search needs)
     loop-again
     returns)

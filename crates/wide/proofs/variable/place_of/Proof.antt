@@ -8,18 +8,12 @@ use borrow.Author.Needs.{needs}
 use Rattle.wide.proofs.variable.place_of.Statement.{statement}
 use Rattle.wide.proofs.variable.place_of.Tie as tie
 
-first-of-requires : tie.Need-first-of-requires
-first-of-requires c κs = search needs
-
 sub-result : tie.Need-sub-result
 sub-result c = omega (arith, c .first-of .ensures, first-low (c .before .args .signed))
-
-add-result : tie.Need-add-result
-add-result c = search needs
 
 returns : tie.Need-returns
 unfolding behind
 returns c = ap (λ (f : ℕ). (c .before .args .b + (256 - f)) % 256) (c .first-of .ensures)
 
 pub place-of-spec : {M : Type 1} → statement M
-place-of-spec = tie.close (tie.spec first-of-requires sub-result add-result returns)
+place-of-spec = tie.close (tie.spec (λ c κs. search needs) sub-result (λ c. search needs) returns)

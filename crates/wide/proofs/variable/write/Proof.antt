@@ -43,32 +43,17 @@ long c f e =
     form-long (a .signed) (valueOf (a .w)) (value-lt (a .w) h) (c .before .before .before .is-direct .result) (c .before .rank-of .result) (c .size-at .result) f
     (c .before .before .before .is-direct .ensures) (c .before .before .if1 .left) (c .before .rank-of .ensures) (c .size-at .ensures) e
 
-is-direct-requires : tie.Need-is-direct-requires
-is-direct-requires c κs = search needs
-
 returns : tie.Need-returns
 returns c =
     let a = c .before .before .before .before .args in
     let f = form (variable (a .signed)) (valueOf (a .w)) in
     no-room f (a .out .now) 1 (ap length (one (c .before .before) _ (c .before .if1 .taken) refl)) (c .if2 .taken)
 
-low-requires : tie.Need-low-requires
-low-requires c κs = search needs
-
-slice-write-out : tie.Need-slice-write-out
-slice-write-out c = search needs
-
-same-length : tie.Need-same-length
-same-length c = search needs
-
 returns-2 : tie.Need-returns-2
 returns-2 c =
     let a = c .before .before .before .before .before .args in
     wrote-one (form (variable (a .signed)) (valueOf (a .w))) (a .out .now) (c .low .result)
     (one (c .before .before .before) (c .low .result) (c .before .before .if1 .taken) (c .low .ensures)) (c .before .if2 .left)
-
-rank-of-requires : tie.Need-rank-of-requires
-rank-of-requires c κs = search needs
 
 size-at-requires : tie.Need-size-at-requires
 size-at-requires c κs = rank-small c
@@ -82,17 +67,11 @@ returns-3 c =
     let f = form (variable (a .signed)) (valueOf (a .w)) in
     no-room f (a .out .now) (c .before .size-at .result + 1) (long-length f _ (c .before .size-at .result) (valueOf (a .w)) (long (c .before) _ refl)) (c .if3 .taken)
 
-first-of-requires : tie.Need-first-of-requires
-first-of-requires c κs = search needs
-
 add-out : tie.Need-add-out
 add-out c = omega (arith, c .first-of .ensures, first-low (c .before .before .before .before .before .before .before .args .signed), rank-small (c .before .before .before))
 
 cast-out : tie.Need-cast-out
 cast-out c = omega (arith, c .first-of .ensures, first-low (c .before .before .before .before .before .before .before .args .signed), rank-small (c .before .before .before))
-
-slice-write-out-2 : tie.Need-slice-write-out-2
-slice-write-out-2 c = search needs
 
 write-body-requires : tie.Need-write-body-requires
 write-body-requires c κs = simp length-set (omega arith)
@@ -111,20 +90,20 @@ pub write-spec : {M : Type 1} → statement M
 write-spec =
     tie.close
     (tie.spec
-    is-direct-requires
+    (λ c κs. search needs)
     returns
-    low-requires
-    slice-write-out
-    same-length
+    (λ c κs. search needs)
+    (λ c. search needs)
+    (λ c. search needs)
     returns-2
-    rank-of-requires
+    (λ c κs. search needs)
     size-at-requires
     add-need
     returns-3
-    first-of-requires
+    (λ c κs. search needs)
     add-out
     cast-out
-    slice-write-out-2
+    (λ c. search needs)
     write-body-requires
     same-length-2
     returns-4)

@@ -6,24 +6,6 @@ use borrow.Author.Needs.{needs}
 use Rattle.format.proofs.head.Holder.children.Statement.{statement}
 use Rattle.format.proofs.head.Holder.children.Tie as tie
 
-enum-told : tie.Need-enum-told
-enum-told c = search needs
-
-enum-told-2 : tie.Need-enum-told-2
-enum-told-2 c = search needs
-
-mul-result : tie.Need-mul-result
-mul-result c = search needs
-
-enum-told-3 : tie.Need-enum-told-3
-enum-told-3 c = search needs
-
-mul-result-2 : tie.Need-mul-result-2
-mul-result-2 c = search needs
-
-returns : tie.Need-returns
-returns c = search needs
-
 returns-2 : tie.Need-returns-2
 returns-2 c = ap (λ (h : Holder). childCount h (c .before .before .args .n)) (sym (c .enum-told2 .given .1))
 
@@ -34,11 +16,11 @@ pub children-spec : {M : Type 1} → statement M
 children-spec =
     tie.close
     (tie.spec
-    enum-told
-    enum-told-2
-    mul-result
-    enum-told-3
-    mul-result-2
-    returns
+    (λ c. search needs)
+    (λ c. search needs)
+    (λ c. search needs)
+    (λ c. search needs)
+    (λ c. search needs)
+    (λ c. search needs)
     returns-2
     returns-3)

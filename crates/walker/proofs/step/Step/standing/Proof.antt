@@ -4,15 +4,6 @@ use Rattle.walker.proofs.Standings.{standing-to, standing-none, standin
 use Rattle.walker.proofs.step.Step.standing.Statement.{statement}
 use Rattle.walker.proofs.step.Step.standing.Tie as tie
 
-enum-known-self : tie.Need-enum-known-self
-enum-known-self c = search needs
-
-enum-told : tie.Need-enum-told
-enum-told c = search needs
-
-enum-told-2 : tie.Need-enum-told-2
-enum-told-2 c = search needs
-
 returns : tie.Need-returns
 returns c = search standing-to
 
@@ -24,4 +15,4 @@ returns-3 c = search standing-bad
 
 pub standing-spec : {M : Type 1} → statement M
 standing-spec =
-    tie.close (tie.spec enum-known-self enum-told enum-told-2 returns returns-2 returns-3)
+    tie.close (tie.spec (λ c. search needs) (λ c. search needs) (λ c. search needs) returns returns-2 returns-3)

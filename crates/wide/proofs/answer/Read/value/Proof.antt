@@ -5,17 +5,8 @@ use borrow.Author.Needs.{needs}
 use Rattle.wide.proofs.answer.Read.value.Statement.{statement}
 use Rattle.wide.proofs.answer.Read.value.Tie as tie
 
-enum-known-self : tie.Need-enum-known-self
-enum-known-self c = search needs
-
-enum-told : tie.Need-enum-told
-enum-told c = search needs
-
-returns : tie.Need-returns
-returns c = search needs
-
 returns-2 : tie.Need-returns-2
 returns-2 c = ap readValue (sym (c .enum-told .given .1))
 
 pub value-spec : {M : Type 1} → statement M
-value-spec = tie.close (tie.spec enum-known-self enum-told returns returns-2)
+value-spec = tie.close (tie.spec (λ c. search needs) (λ c. search needs) (λ c. search needs) returns-2)
