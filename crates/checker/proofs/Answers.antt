@@ -18,18 +18,18 @@ use Rattle.rules.proofs.Exact as exact
 use Rattle.rules.specs.Grow.{Growth, grew, bad, grow, endsWith, rulesHold}
 use Rattle.checker.specs.declared.checked.Checked.{Checked}
 use Rattle.checker.specs.declared.checked.Checked.the-variants.{Right, BadTable}
-use Rattle.checker.specs.declared.grown.Grown.{Grown}
-use Rattle.checker.specs.declared.grown.Grown.the-variants.{Up, Not}
+use Rattle.checker.specs.declared.standing.Standing.{Standing}
+use Rattle.checker.specs.declared.standing.Standing.the-variants.{Until, Broken}
 use Rattle.checker.specs.Checked.{checked}
-use Rattle.checker.specs.Safe.{Safe, grownOf}
+use Rattle.checker.specs.Contracts.{EntriesBefore, standingOf}
 
-with-up : (n : ℕ) (g : Growth) (next : ℕ) → grownOf g ≡ Up next → endsWith n g ≡ eqb next n
-with-up n (grew t e) next q = let i : e ≡ next = cc in ap (λ (x : ℕ). eqb x n) i
-with-up n bad next q = cc
+with-until : (n : ℕ) (g : Growth) (next : ℕ) → standingOf g ≡ Until next → endsWith n g ≡ eqb next n
+with-until n (grew t e) next q = let i : e ≡ next = cc in ap (λ (x : ℕ). eqb x n) i
+with-until n bad next q = cc
 
-with-not : (n : ℕ) (g : Growth) → grownOf g ≡ Not → endsWith n g ≡ false
-with-not n (grew t e) q = cc
-with-not n bad q = refl
+with-broken : (n : ℕ) (g : Growth) → standingOf g ≡ Broken → endsWith n g ≡ false
+with-broken n (grew t e) q = cc
+with-broken n bad q = refl
 
 module _ (depth : ℕ) (table : List ℕ) (n : ℕ) (s : List ℕ) where
   pub none : n < 1 → BadTable ≡ checked depth table n s
@@ -54,29 +54,29 @@ module _ (depth : ℕ) (table : List ℕ) (n : ℕ) (s : List ℕ) where
         pub start-based : Based table 0 0
         start-based = based-plain table 0 0 (omega arith)
 
-        pub start-asks : Safe table n 0 0 0
+        pub start-asks : EntriesBefore table n 0 0 0
         start-asks = record { room = omega arith; few = few; here = omega arith; below = below-none table 0 0 }
 
-        module _ (short : length s ≤ limit) (g : Grown) (read : g ≡ grownOf (grow (depth + 1) table n s (chain table 0 0) 0)) where
-          there : g ≡ grownOf (grow (suc depth) table n s [] 0)
+        module _ (short : length s ≤ limit) (g : Standing) (read : g ≡ standingOf (grow table n s (depth + 1) (chain table 0 0) 0)) where
+          there : g ≡ standingOf (grow table n s (suc depth) [] 0)
           unfolding chain
-          there = let e : depth + 1 ≡ suc depth = omega arith in read ∙ ap (λ (d : ℕ). grownOf (grow d table n s [] 0)) e
+          there = let e : depth + 1 ≡ suc depth = omega arith in read ∙ ap (λ (d : ℕ). standingOf (grow table n s d [] 0)) e
 
-          by : (b : Bool) → endsWith n (grow (suc depth) table n s [] 0) ≡ b → rulesHold depth table n s ≡ b
+          by : (b : Bool) → endsWith n (grow table n s (suc depth) [] 0) ≡ b → rulesHold depth table n s ≡ b
           unfolding rulesHold
           by b e = rw (le-leb 1 n some, le-leb n limit few, le-leb n (lent table) (omega arith), le-leb (length s) limit short) e
 
-          pub right : (next : ℕ) → g ≡ Up next → next ≡ n → Right n ≡ checked depth table n s
+          pub right : (next : ℕ) → g ≡ Until next → next ≡ n → Right n ≡ checked depth table n s
           unfolding checked
-          right next e h = rw (by true (with-up n (grow (suc depth) table n s [] 0) next (sym there ∙ e) ∙ eq-eqb next n h))
+          right next e h = rw (by true (with-until n (grow table n s (suc depth) [] 0) next (sym there ∙ e) ∙ eq-eqb next n h))
 
-          pub elsewhere : (next : ℕ) → g ≡ Up next → (next ≡ n → ⊥) → BadTable ≡ checked depth table n s
+          pub elsewhere : (next : ℕ) → g ≡ Until next → (next ≡ n → ⊥) → BadTable ≡ checked depth table n s
           unfolding checked
-          elsewhere next e h = rw (by false (with-up n (grow (suc depth) table n s [] 0) next (sym there ∙ e) ∙ ne-eqb next n h))
+          elsewhere next e h = rw (by false (with-until n (grow table n s (suc depth) [] 0) next (sym there ∙ e) ∙ ne-eqb next n h))
 
-          pub broken : g ≡ Not → BadTable ≡ checked depth table n s
+          pub broken : g ≡ Broken → BadTable ≡ checked depth table n s
           unfolding checked
-          broken e = rw (by false (with-not n (grow (suc depth) table n s [] 0) (sym there ∙ e)))
+          broken e = rw (by false (with-broken n (grow table n s (suc depth) [] 0) (sym there ∙ e)))
 
 -- two answers that the promise allows are equal
 pub one-answer : (depth : ℕ) (table : List ℕ) (n : ℕ) (s : List ℕ) (a b : Checked) → a ≡ checked depth table n s → b ≡ checked depth table n s → a ≡ b

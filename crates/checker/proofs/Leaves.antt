@@ -8,7 +8,7 @@ use lib.ListN.{length, getD}
 use lib.Dec.{ltb, eqb}
 use borrow.Author.Tests.{lt-ltb, le-ltb, eq-eqb, ne-eqb}
 use Rattle.rows.specs.declared.row.Row.{Row}
-use Rattle.rows.specs.Table.{rowAt}
+use Rattle.rows.specs.Table.{ownOf, rowAt}
 use Rattle.rows.specs.Kinds.{kindKey}
 use Rattle.registry.specs.Registry.{walk, chain}
 use Rattle.registry.proofs.Walks.{length-chain, chain-at}
@@ -20,26 +20,27 @@ use Rattle.measure.specs.declared.measured.Measured.the-variants as measured
 use Rattle.measure.specs.Measured.{measuredOf}
 use Rattle.rules.specs.declared.shape.Shape.{Shape}
 use Rattle.rules.specs.declared.shape.Shape.the-variants.{Leaf}
-use Rattle.rules.specs.Shape.{spelt, shapeOf}
-use Rattle.rules.specs.Grow.{Growth, grew, bad, endsAt, leafAt, keyRow, growKey, referred, damaged}
-use Rattle.checker.specs.declared.grown.Grown.{Grown}
-use Rattle.checker.specs.declared.grown.Grown.the-variants.{Up, Not}
-use Rattle.checker.specs.Safe.{alone, standsAlone, grownOf, endingAt}
+use Rattle.format.specs.Tree.{leaf}
+use Rattle.rules.specs.Shape.{spelt, shapeOf, keyFits}
+use Rattle.rules.specs.Grow.{Growth, grew, bad, endsAt, growKey, pointing, judged}
+use Rattle.checker.specs.declared.standing.Standing.{Standing}
+use Rattle.checker.specs.declared.standing.Standing.the-variants.{Until, Broken}
+use Rattle.checker.specs.Contracts.{alone, standsAlone, standingOf, keyStanding, endingAt}
 use Rattle.format.specs.Refusal.{numberOf as refusalNumber}
 
 -- ---- where a row ends
 
-pub ends-yes : (end next e : ℕ) (g : Grown) → g ≡ Up next → e ≡ end → next ≡ e → Up next ≡ endingAt end g
+pub ends-yes : (end next e : ℕ) (g : Standing) → g ≡ Until next → e ≡ end → next ≡ e → Until next ≡ endingAt end g
 ends-yes end next e g q f h = rw (q, eq-eqb next end (h ∙ f))
 
-pub ends-other : (end next e : ℕ) (g : Grown) → g ≡ Up next → e ≡ end → (next ≡ e → ⊥) → Not ≡ endingAt end g
+pub ends-other : (end next e : ℕ) (g : Standing) → g ≡ Until next → e ≡ end → (next ≡ e → ⊥) → Broken ≡ endingAt end g
 ends-other end next e g q f h = rw (q, ne-eqb next end (λ x. h (x ∙ sym f)))
 
 -- the same of what grows
-pub ends-grown : (end : ℕ) (g : Growth) → grownOf (endsAt end g) ≡ endingAt end (grownOf g)
+pub ends-grown : (end : ℕ) (g : Growth) → standingOf (endsAt end g) ≡ endingAt end (standingOf g)
 ends-grown end (grew t next) = go (eqb next end)
   where
-    go : (b : Bool) → grownOf (cond b (grew t next) bad) ≡ cond b (Up next) Not
+    go : (b : Bool) → standingOf (cond b (grew t next) bad) ≡ cond b (Until next) Broken
     go true = refl
     go false = refl
 ends-grown end bad = refl
@@ -47,24 +48,28 @@ ends-grown end bad = refl
 -- ---- a key
 
 module _ (s : List ℕ) (row : ℕ) (w : Row) where
-  pub key-other : (w .kind ≡ kindKey → ⊥) → Not ≡ grownOf (keyRow s row w)
+  pub key-other : (w .kind ≡ kindKey → ⊥) → Broken ≡ keyStanding s row w
   key-other h = rw (ne-eqb (w .kind) kindKey h)
 
   module _ (is : w .kind ≡ kindKey) (b : Bool) (words : b ≡ spelt s (w .w0) (w .w1) (w .w2) (w .w3)) where
     told : (v : Bool) → b ≡ v → eqb (w .kind) kindKey && spelt s (w .w0) (w .w1) (w .w2) (w .w3) ≡ v
     told v e = rw (eq-eqb (w .kind) kindKey is) (sym words ∙ e)
 
-    pub key-yes : (r : Grown) → b ≡ true → r ≡ endingAt (w .end) (Up (row + 1)) → r ≡ grownOf (keyRow s row w)
-    key-yes r e f = rw (told true e) (f ∙ sym (ends-grown (w .end) (grew (leafAt w) (row + 1))))
+    pub key-yes : (r : Standing) → b ≡ true → r ≡ endingAt (w .end) (Until (row + 1)) → r ≡ keyStanding s row w
+    key-yes r e f = rw (told true e) f
 
-    pub key-no : b ≡ false → Not ≡ grownOf (keyRow s row w)
+    pub key-no : b ≡ false → Broken ≡ keyStanding s row w
     key-no e = rw (told false e)
 
-pub key-in : (table : List ℕ) (n : ℕ) (s : List ℕ) (row : ℕ) (w : Row) (r : Grown) → row < n → w ≡ rowAt table row → r ≡ grownOf (keyRow s row w) → r ≡ grownOf (growKey table n s row)
+pub key-in : (table : List ℕ) (n : ℕ) (s : List ℕ) (row : ℕ) (w : Row) (r : Standing) → row < n → w ≡ rowAt table row → r ≡ keyStanding s row w → r ≡ standingOf (growKey table n s row)
 unfolding growKey
-key-in table n s row w r h q e = rw (lt-ltb row n h, ← q) e
+key-in table n s row w r h q e = rw (lt-ltb row n h, ← q) (e ∙ go (keyFits s (ownOf w)))
+  where
+    go : (b : Bool) → endingAt (w .end) (cond b (Until (row + 1)) Broken) ≡ standingOf (endsAt (w .end) (cond b (grew (leaf (ownOf w)) (row + 1)) bad))
+    go true = sym (ends-grown (w .end) (grew (leaf (ownOf w)) (row + 1)))
+    go false = refl
 
-pub key-out : (table : List ℕ) (n : ℕ) (s : List ℕ) (row : ℕ) → n ≤ row → Not ≡ grownOf (growKey table n s row)
+pub key-out : (table : List ℕ) (n : ℕ) (s : List ℕ) (row : ℕ) → n ≤ row → Broken ≡ standingOf (growKey table n s row)
 unfolding growKey
 key-out table n s row h = rw (le-ltb row n h)
 
@@ -78,7 +83,7 @@ module _ (table : List ℕ) (n : ℕ) (s : List ℕ) (row : ℕ) where
   unfolding standsAlone
   alone-out h = rw (le-ltb row n h)
 
-  pub alone-in : (w : Row) (x : Shape) (r : Bool) → row < n → w ≡ rowAt table row → x ≡ shapeOf s (w .kind) (w .w0) (w .w1) (w .w2) (w .w3) → r ≡ alone x row (w .end)
+  pub alone-in : (w : Row) (x : Shape) (r : Bool) → row < n → w ≡ rowAt table row → x ≡ shapeOf s (ownOf w) → r ≡ alone x row (w .end)
       → r ≡ standsAlone table n s row
   unfolding standsAlone
   alone-in w x r h q e f = rw (lt-ltb row n h, ← q, ← e) f
@@ -97,27 +102,27 @@ module _ (table : List ℕ) (first k row : ℕ) (w : Row) (number : ℕ) (is : n
     row-of : getD (chain table first k) (w .w0) 0 ≡ entry
     row-of = chain-at table first k (w .w0) (omega arith) ∙ ap (walk table first) (sym is) ∙ sym at
 
-    pub refer-yes : said ≡ entry → Up (row + 1) ≡ grownOf (referred (chain table first k) row w)
+    pub refer-yes : said ≡ entry → Until (row + 1) ≡ standingOf (pointing (chain table first k) row (ownOf w))
     unfolding A
     refer-yes e = rw (known l, eq-eqb (w .w1) (getD (chain table first k) (w .w0) 0) (sym f ∙ e ∙ sym row-of))
 
-    pub refer-other : (said ≡ entry → ⊥) → Not ≡ grownOf (referred (chain table first k) row w)
+    pub refer-other : (said ≡ entry → ⊥) → Broken ≡ standingOf (pointing (chain table first k) row (ownOf w))
     unfolding A
     refer-other e = rw (known l, ne-eqb (w .w1) (getD (chain table first k) (w .w0) 0) (λ x. e (f ∙ x ∙ row-of)))
 
-  pub refer-out : k ≤ number → Not ≡ grownOf (referred (chain table first k) row w)
+  pub refer-out : k ≤ number → Broken ≡ standingOf (pointing (chain table first k) row (ownOf w))
   refer-out l = rw (le-ltb (w .w0) (length (chain table first k)) (omega (arith, length-chain table first k)))
 
 -- ---- a damaged body
 
 module _ (row : ℕ) (w : Row) (e : Refusal) (place v : ℕ) (is : v ≡ refusalNumber e) where
-  pub verdict-yes : w .w2 ≡ v → Up (row + 1) ≡ grownOf (damaged row w (wrong e place))
+  pub verdict-yes : w .w2 ≡ v → Until (row + 1) ≡ standingOf (judged row (ownOf w) (wrong e place))
   verdict-yes h = rw (eq-eqb (w .w2) (refusalNumber e) (h ∙ is))
 
-  pub verdict-no : (w .w2 ≡ v → ⊥) → Not ≡ grownOf (damaged row w (wrong e place))
+  pub verdict-no : (w .w2 ≡ v → ⊥) → Broken ≡ standingOf (judged row (ownOf w) (wrong e place))
   verdict-no h = rw (ne-eqb (w .w2) (refusalNumber e) (λ x. h (x ∙ sym is)))
 
-body-whole : (row : ℕ) (w : Row) (stop : ℕ) (x : Reading) (r next : ℕ) → measuredOf x ≡ measured.Right r next → next ≡ stop → Not ≡ grownOf (damaged row w (whole stop x))
+body-whole : (row : ℕ) (w : Row) (stop : ℕ) (x : Reading) (r next : ℕ) → measuredOf x ≡ measured.Right r next → next ≡ stop → Broken ≡ standingOf (judged row (ownOf w) (whole stop x))
 body-whole row w stop (right t m) r next e h = let i : m ≡ stop = cc in rw (eq-eqb m stop i)
 body-whole row w stop (wrong y p) r next e h = cc
 
@@ -140,12 +145,12 @@ module _ (s : List ℕ) (row d around k place size : ℕ) (w : Row) (in-force : 
   ends : place + size ≡ w .w0 + w .w1
   ends = ap₂ (λ (a b : ℕ). a + b) f g
 
-  pub damaged-whole : (r next : ℕ) → m ≡ measured.Right r next → next ≡ place + size → Not ≡ grownOf (damaged row w (whole (w .w0 + w .w1) x))
+  pub damaged-whole : (r next : ℕ) → m ≡ measured.Right r next → next ≡ place + size → Broken ≡ standingOf (judged row (ownOf w) (whole (w .w0 + w .w1) x))
   damaged-whole r next e h = body-whole row w (w .w0 + w .w1) x r next (sym there ∙ e) (h ∙ ends)
 
-  pub damaged-extra : (r next : ℕ) (q : Grown) → m ≡ measured.Right r next → (next ≡ place + size → ⊥) → q ≡ grownOf (damaged row w (wrong why.Extra next))
-      → q ≡ grownOf (damaged row w (whole (w .w0 + w .w1) x))
-  damaged-extra r next q e h j = j ∙ sym (ap (λ (z : Reading). grownOf (damaged row w z)) (body-extra (w .w0 + w .w1) x r next (sym there ∙ e) (λ z. h (z ∙ sym ends))))
+  pub damaged-extra : (r next : ℕ) (q : Standing) → m ≡ measured.Right r next → (next ≡ place + size → ⊥) → q ≡ standingOf (judged row (ownOf w) (wrong why.Extra next))
+      → q ≡ standingOf (judged row (ownOf w) (whole (w .w0 + w .w1) x))
+  damaged-extra r next q e h j = j ∙ sym (ap (λ (z : Reading). standingOf (judged row (ownOf w) z)) (body-extra (w .w0 + w .w1) x r next (sym there ∙ e) (λ z. h (z ∙ sym ends))))
 
-  pub damaged-wrong : (y : Refusal) (p : ℕ) (q : Grown) → m ≡ measured.Wrong y p → q ≡ grownOf (damaged row w (wrong y p)) → q ≡ grownOf (damaged row w (whole (w .w0 + w .w1) x))
-  damaged-wrong y p q e j = j ∙ sym (ap (λ (z : Reading). grownOf (damaged row w z)) (body-wrong (w .w0 + w .w1) x y p (sym there ∙ e)))
+  pub damaged-wrong : (y : Refusal) (p : ℕ) (q : Standing) → m ≡ measured.Wrong y p → q ≡ standingOf (judged row (ownOf w) (wrong y p)) → q ≡ standingOf (judged row (ownOf w) (whole (w .w0 + w .w1) x))
+  damaged-wrong y p q e j = j ∙ sym (ap (λ (z : Reading). standingOf (judged row (ownOf w) z)) (body-wrong (w .w0 + w .w1) x y p (sym there ∙ e)))

@@ -2,55 +2,55 @@
 ghost use mathlib.Core.Path.{_≡_};
 ghost use Prim.Native.Nat.{_+_, _≤_, _<_};
 ghost use lib.ListN.{length};
-ghost use Rattle.rows.specs.Table.{lent, limit};
+ghost use Rattle.rows.specs.Table.{ownOf, lent, limit};
 ghost use Rattle.registry.specs.Registry.{chain, Below, firstIn, Based};
 ghost use Rattle.format.specs.Value.{inForeign, value, whole, wrong};
-ghost use Rattle.rules.specs.Grow.{keyRow, growKey, referred, damaged};
-ghost use Rattle.checker.specs.Safe.{alone, standsAlone, grownOf, endingAt};
-use crate::grown::Grown;
+ghost use Rattle.rules.specs.Grow.{growKey, pointing, judged};
+ghost use Rattle.checker.specs.Contracts.{alone, standsAlone, standingOf, keyStanding, endingAt};
+use crate::standing::Standing;
 use format::Refusal;
 use measure::Measured;
 use rows::Row;
 use rules::Shape;
 
 // A row ends where what it holds does.
-pub fn ends_at(end: u32, g: Grown) -> Grown
+pub fn ends_at(end: u32, g: Standing) -> Standing
     ensures { λ r. ⌜ r ≡ endingAt end g ⌝ }
 {
     match g {
-        Grown::Up { next } => {
+        Standing::Until { next } => {
             if next == rows::number(end) {
-                return Grown::Up { next };
+                return Standing::Until { next };
             }
-            Grown::Not
+            Standing::Broken
         }
-        Grown::Not => Grown::Not,
+        Standing::Broken => Standing::Broken,
     }
 }
 
 // A record's key, by its words.
-fn key_row(s: &[u8], row: usize, w: Row) -> Grown
+fn key_row(s: &[u8], row: usize, w: Row) -> Standing
     requires { ⌜ row < limit ⌝ }
-    ensures { λ r. ⌜ r ≡ grownOf (keyRow (now (s .entry)) row w) ⌝ }
+    ensures { λ r. ⌜ r ≡ keyStanding (now (s .entry)) row w ⌝ }
 {
     if w.kind != Row::KEY {
-        return Grown::Not;
+        return Standing::Broken;
     }
     if rules::spelt(s, w.w0, w.w1, w.w2, w.w3) {
-        return ends_at(w.end, Grown::Up { next: row + 1 });
+        return ends_at(w.end, Standing::Until { next: row + 1 });
     }
-    Grown::Not
+    Standing::Broken
 }
 
 // A record's key, at `row`.
-pub fn check_key(table: &[u32], n: usize, s: &[u8], row: usize) -> Grown
+pub fn check_key(table: &[u32], n: usize, s: &[u8], row: usize) -> Standing
     requires { ⌜ (n ≤ lent (now table)) × (n ≤ limit) ⌝ }
-    ensures { λ r. ⌜ r ≡ grownOf (growKey (now (table .entry)) n (now (s .entry)) row) ⌝ }
+    ensures { λ r. ⌜ r ≡ standingOf (growKey (now (table .entry)) n (now (s .entry)) row) ⌝ }
 {
     if row < n {
         return key_row(s, row, rows::row_at(table, row));
     }
-    Grown::Not
+    Standing::Broken
 }
 
 // Whether a row of that shape, with that end, has no child and ends behind itself.
@@ -82,36 +82,36 @@ pub fn stands_alone(table: &[u32], n: usize, s: &[u8], row: usize) -> bool
 }
 
 // A reference: its entry is in force, and stands at the row that it says.
-pub fn check_reference(table: &[u32], row: usize, base: usize, around: usize, w: Row) -> Grown
+pub fn check_reference(table: &[u32], row: usize, base: usize, around: usize, w: Row) -> Standing
     requires { ⌜ (row ≤ lent (now table)) × (row < limit) × Below (now table) (firstIn base) around row × Based (now table) base around ⌝ }
-    ensures { λ r. ⌜ r ≡ grownOf (referred (chain (now (table .entry)) (firstIn base) around) row w) ⌝ }
+    ensures { λ r. ⌜ r ≡ standingOf (pointing (chain (now (table .entry)) (firstIn base) around) row (ownOf w)) ⌝ }
 {
     let number = rows::number(w.w0);
     if number < around {
         let entry = registry::entry_in(table, base, number, row);
         if rows::number(w.w1) == entry {
-            return Grown::Up { next: row + 1 };
+            return Standing::Until { next: row + 1 };
         }
-        return Grown::Not;
+        return Standing::Broken;
     }
-    Grown::Not
+    Standing::Broken
 }
 
 // The verdict of a damaged body is what reading it gave.
-fn verdict_is(row: usize, w: Row, why: Refusal, place: usize) -> Grown
+fn verdict_is(row: usize, w: Row, why: Refusal, place: usize) -> Standing
     requires { ⌜ row < limit ⌝ }
-    ensures { λ r. ⌜ r ≡ grownOf (damaged row w (wrong why place)) ⌝ }
+    ensures { λ r. ⌜ r ≡ standingOf (judged row (ownOf w) (wrong why place)) ⌝ }
 {
     if w.w2 == why.number() {
-        return Grown::Up { next: row + 1 };
+        return Standing::Until { next: row + 1 };
     }
-    Grown::Not
+    Standing::Broken
 }
 
 // A damaged foreign body: its bytes are measured where they stand.
-pub fn check_damaged(s: &[u8], row: usize, levels: usize, around: usize, w: Row) -> Grown
+pub fn check_damaged(s: &[u8], row: usize, levels: usize, around: usize, w: Row) -> Standing
     requires { ⌜ (row < limit) × (w .w0 + w .w1 ≤ length (now s)) ⌝ }
-    ensures { λ r. ⌜ r ≡ grownOf (damaged row w (whole (w .w0 + w .w1) (value levels (now (s .entry)) (inForeign around) (w .w0) (w .w0 + w .w1)))) ⌝ }
+    ensures { λ r. ⌜ r ≡ standingOf (judged row (ownOf w) (whole (w .w0 + w .w1) (value levels (now (s .entry)) (inForeign around) (w .w0) (w .w0 + w .w1)))) ⌝ }
 {
     let place = rows::number(w.w0);
     let end = place + rows::number(w.w1);
@@ -119,7 +119,7 @@ pub fn check_damaged(s: &[u8], row: usize, levels: usize, around: usize, w: Row)
     match m {
         Measured::Right { rows: _, next } => {
             if next == end {
-                return Grown::Not;
+                return Standing::Broken;
             }
             verdict_is(row, w, Refusal::Extra, next)
         }

@@ -2,19 +2,20 @@
 ghost use mathlib.Core.Path.{_≡_};
 ghost use mathlib.Core.List.{[]};
 ghost use Prim.Native.Nat.{_+_, _≤_, _<_};
-ghost use Rattle.rows.specs.Table.{lent, limit};
+ghost use Rattle.rows.specs.Table.{ownOf, lent, limit};
+ghost use Rattle.rows.specs.Kinds.{declarationOwn};
 ghost use Rattle.registry.specs.Registry.{chain, firstIn, Based};
-ghost use Rattle.format.specs.declared.head.Children.the-variants.{Growing};
+ghost use Rattle.format.specs.declared.head.Children.the-variants.{Entries};
 ghost use Rattle.format.specs.Value.{inForce, isKey};
 ghost use Rattle.rules.specs.Shape.{shapeOf};
-ghost use Rattle.rules.specs.Grow.{item, grows, declared, byShape, grow};
-ghost use Rattle.checker.specs.Safe.{Safe, SafeAll, BasedAll, grownOf, grownAll};
-use crate::grown::Grown;
+ghost use Rattle.rules.specs.Grow.{item, grows, overEntries, byShape, grow};
+ghost use Rattle.checker.specs.Contracts.{EntriesBefore, EntriesBeforeChild, BasedForChild, standingOf, standingAll};
 use crate::one::check_damaged;
 use crate::one::check_key;
 use crate::one::check_reference;
 use crate::one::ends_at;
 use crate::one::stands_alone;
+use crate::standing::Standing;
 use format::Children;
 use rows::Row;
 use rules::Shape;
@@ -28,15 +29,15 @@ pub fn check_value(
     levels: usize,
     base: usize,
     around: usize,
-) -> Grown
-    requires { ⌜ Safe (now table) n (firstIn base) around row × Based (now table) base around ⌝ }
-    ensures { λ r. ⌜ r ≡ grownOf (grow levels (now (table .entry)) n (now (s .entry)) (chain (now (table .entry)) (firstIn base) around) row) ⌝ }
+) -> Standing
+    requires { ⌜ EntriesBefore (now table) n (firstIn base) around row × Based (now table) base around ⌝ }
+    ensures { λ r. ⌜ r ≡ standingOf (grow (now (table .entry)) n (now (s .entry)) levels (chain (now (table .entry)) (firstIn base) around) row) ⌝ }
 {
     if levels == 0 {
-        return Grown::Not;
+        return Standing::Broken;
     }
     if n <= row {
-        return Grown::Not;
+        return Standing::Broken;
     }
     let w = rows::row_at(table, row);
     let shape = rules::shape_of(s, w);
@@ -55,14 +56,14 @@ fn check_row(
     around: usize,
     w: Row,
     shape: Shape,
-) -> Grown
-    requires { ⌜ Safe (now table) n (firstIn base) around row × Based (now table) base around × (row < n) ⌝ }
-    requires { ⌜ shape ≡ shapeOf (now s) (w .kind) (w .w0) (w .w1) (w .w2) (w .w3) ⌝ }
-    ensures { λ r. ⌜ r ≡ grownOf (byShape (grow levels (now (table .entry)) n (now (s .entry))) levels (now (table .entry)) n (now (s .entry)) (chain (now (table .entry)) (firstIn base) around) row w shape) ⌝ }
+) -> Standing
+    requires { ⌜ EntriesBefore (now table) n (firstIn base) around row × Based (now table) base around × (row < n) ⌝ }
+    requires { ⌜ shape ≡ shapeOf (now s) (ownOf w) ⌝ }
+    ensures { λ r. ⌜ r ≡ standingOf (byShape (now (table .entry)) n (now (s .entry)) (grow (now (table .entry)) n (now (s .entry)) levels) levels (chain (now (table .entry)) (firstIn base) around) row (ownOf w) shape) ⌝ }
 {
     match shape {
-        Shape::Bad => Grown::Not,
-        Shape::Leaf => Grown::Up { next: row + 1 },
+        Shape::Bad => Standing::Broken,
+        Shape::Leaf => Standing::Until { next: row + 1 },
         Shape::Refer => check_reference(table, row, base, around, w),
         Shape::Hold { holder } => {
             let count = holder.children(rows::number(w.w0));
@@ -71,16 +72,14 @@ fn check_row(
         }
         Shape::Declare => { check_declared(table, n, s, row + 1, levels, rows::number(w.w0)) }
         Shape::Whole => {
-            check_children(
+            check_value(
                 table,
                 n,
                 s,
                 row + 1,
                 levels,
                 base,
-                around,
-                Children::Plain,
-                1,
+                format::in_foreign(around),
             )
         }
         Shape::Damaged => check_damaged(s, row, levels, around, w),
@@ -95,17 +94,17 @@ fn check_declared(
     row: usize,
     levels: usize,
     count: usize,
-) -> Grown
+) -> Standing
     requires { ⌜ (n ≤ lent (now table)) × (n ≤ limit) × (row ≤ n) ⌝ }
-    ensures { λ r. ⌜ r ≡ grownOf (declared (grow levels (now (table .entry)) n (now (s .entry))) count row (grows (grow levels (now (table .entry)) n (now (s .entry))) Growing (now (table .entry)) n (now (s .entry)) [] 0 count row)) ⌝ }
+    ensures { λ r. ⌜ r ≡ standingOf (overEntries (grow (now (table .entry)) n (now (s .entry)) levels) (declarationOwn count) row (grows (now (table .entry)) n (now (s .entry)) (grow (now (table .entry)) n (now (s .entry)) levels) Entries [] 0 count row)) ⌝ }
 {
-    let es = check_children(table, n, s, row, levels, row, 0, Children::Growing, count);
+    let es = check_children(table, n, s, row, levels, row, 0, Children::Entries, count);
     match es {
-        Grown::Up { next } => {
+        Standing::Until { next } => {
             let inside = registry::base_of(row, next, count);
             check_value(table, n, s, next, levels, inside, count)
         }
-        Grown::Not => Grown::Not,
+        Standing::Broken => Standing::Broken,
     }
 }
 
@@ -120,16 +119,16 @@ fn check_child(
     around: usize,
     children: Children,
     i: usize,
-) -> Grown
-    requires { ⌜ Safe (now table) n (firstIn base) (inForce children around i) row × Based (now table) base (inForce children around i) ⌝ }
-    ensures { λ r. ⌜ r ≡ grownOf (item (isKey children i) (grow levels (now (table .entry)) n (now (s .entry))) (now (table .entry)) n (now (s .entry)) (chain (now (table .entry)) (firstIn base) (inForce children around i)) row) ⌝ }
+) -> Standing
+    requires { ⌜ EntriesBefore (now table) n (firstIn base) (inForce children around i) row × Based (now table) base (inForce children around i) ⌝ }
+    ensures { λ r. ⌜ r ≡ standingOf (item (now (table .entry)) n (now (s .entry)) (isKey children i) (grow (now (table .entry)) n (now (s .entry)) levels) (chain (now (table .entry)) (firstIn base) (inForce children around i)) row) ⌝ }
 {
     if children.is_key(i) {
         return check_key(table, n, s, row);
     }
     if 0 < levels {
         if stands_alone(table, n, s, row) {
-            return Grown::Up { next: row + 1 };
+            return Standing::Until { next: row + 1 };
         }
     }
     check_value(table, n, s, row, levels, base, children.in_force(around, i))
@@ -146,23 +145,23 @@ fn check_children(
     around: usize,
     children: Children,
     count: usize,
-) -> Grown
-    requires { ⌜ SafeAll (now table) n (firstIn base) around children 0 row × BasedAll (now table) base around children ⌝ }
-    ensures { λ r. ⌜ r ≡ grownAll (grows (grow levels (now (table .entry)) n (now (s .entry))) children (now (table .entry)) n (now (s .entry)) (chain (now (table .entry)) (firstIn base) (inForce children around 0)) 0 count row) ⌝ }
+) -> Standing
+    requires { ⌜ EntriesBeforeChild (now table) n (firstIn base) around children 0 row × BasedForChild (now table) base around children ⌝ }
+    ensures { λ r. ⌜ r ≡ standingAll (grows (now (table .entry)) n (now (s .entry)) (grow (now (table .entry)) n (now (s .entry)) levels) children (chain (now (table .entry)) (firstIn base) (inForce children around 0)) 0 count row) ⌝ }
 {
     let mut i = 0;
     let mut here = row;
     while i < count {
         let g = check_child(table, n, s, here, levels, base, around, children, i);
         match g {
-            Grown::Up { next } => {
+            Standing::Until { next } => {
                 here = next;
                 i += 1;
             }
-            Grown::Not => {
-                return Grown::Not;
+            Standing::Broken => {
+                return Standing::Broken;
             }
         }
     }
-    Grown::Up { next: here }
+    Standing::Until { next: here }
 }

@@ -2,17 +2,18 @@
 -- functions (docs/PROMISES.md) say that the code does what these definitions say, on every input and to the end. Assumes nothing.
 use mathlib.Core.Path.{_≡_, refl, ap, _∙_}
 use mathlib.Core.Bool.{Bool, true, false, cond}
+use mathlib.Core.Logic.{_↔_}
 use mathlib.Core.List.{List, [], map}
 use Prim.Native.Nat.{ℕ, _+_, _^_, _≤_, _<_}
 use native.Mathlib.Omega.{arith}
 use lib.ListN.{length, getD, replicate}
 use lib.Seq.{sets}
 use lib.Dec.{leb}
-use borrow.Author.Tests.{le-leb, leb-false}
+use borrow.Author.Tests.{le-leb, lt-leb, leb-true, leb-false}
 use Rattle.lists.specs.Zeroed.{zeroed}
 use Rattle.lists.proofs.Zeros.{zeroed-all}
 use Rattle.wide.proofs.Numbers.{Bytes}
-use Rattle.rows.specs.Table.{rowAt, lent, limit}
+use Rattle.rows.specs.Table.{rowAt, lent, limit, ownOf}
 use Rattle.format.specs.declared.answer.Answer.the-variants.{Accepted, TooLong, Full}
 use Rattle.format.specs.Tree.{Tree, size}
 use Rattle.format.specs.Value.{Reading, right, wrong, document}
@@ -27,20 +28,24 @@ use Rattle.rules.proofs.Exact as exact
 use Rattle.checker.specs.declared.checked.Checked.the-variants.{Right}
 use Rattle.checker.specs.Checked.{checked}
 use Rattle.checker.proofs.Answers as check
-use Rattle.walker.specs.Walk.{startOf}
+use Rattle.walker.specs.declared.standing.Standing.{Standing}
+use Rattle.walker.specs.declared.step.Step.the-variants.{To, NoStep}
+use Rattle.walker.specs.Walk.{standing, startOf, stepOn, stepAlong}
+use Rattle.walker.proofs.Along.{reached}
 use Rattle.resolve.specs.Resolve.{resolve}
 use Rattle.payload.specs.Payload.{payloadAt}
 use Rattle.walks.specs.Spots.{spot, nil, treeOf, treeWalk, treeEnd, tableWalk, tableEnd, AllInTable, ownPart, Way}
 use Rattle.walks.proofs.Walked as walked
 use Rattle.walks.proofs.Meets as meets
 use Rattle.walks.proofs.Resolves as resolves
+use Rattle.walks.proofs.Along as along
 use Rattle.encode.specs.Encode.{hasBytes}
 use Rattle.spell.specs.Own.{Inside}
 use Rattle.writer.specs.declared.written.Written.{Written}
 use Rattle.writer.specs.declared.written.Written.the-variants.{Done, BadTable, TooLarge, NoRoom}
 use Rattle.writer.specs.Written.{documentOf, written, left, outputAfter}
 use Rattle.writer.proofs.Asks.{yes-inside}
-use Rattle.demands.specs.Alike.{Alike}
+use Rattle.demands.specs.Alike.{SameRows}
 use Rattle.demands.specs.Back.{backOf, tableBack, ReadsBack}
 use Rattle.demands.specs.Starred.{outcome, wanted}
 use Rattle.demands.proofs.Reading as reading
@@ -79,45 +84,59 @@ refused-write-keeps depth table n s out = of (written depth table n s (length ou
 
 -- ==== Demand 2
 
--- the tree of a document, to the last byte, with its rows, and the table that they are laid in
-pub record Read (depth : ℕ) (s table : List ℕ) (rows : ℕ) : Type 0 where
+-- one of the paper's documents: within the size limit, and right to the last byte, as a tree of so many rows
+pub record Document (depth : ℕ) (s : List ℕ) (rows : ℕ) : Type 0 where
+  pub few : length s ≤ limit
   pub tree : Tree
-  pub document : document depth s ≡ right tree (length s)
+  pub reads : document depth s ≡ right tree (length s)
   pub rows-are : size tree ≡ rows
 
 module _ (depth : ℕ) (s table : List ℕ) where
-  -- "The reader accepts exactly the paper's documents, to the last byte"
-  pub accepts-documents : (n : ℕ) → answer depth s table ≡ Accepted n → Read depth s table n
-  accepts-documents n e =
-      let r = exact.accepted depth s table n e in
-      record { tree = r .tree; document = r .is ∙ ap (right (r .tree)) (document-next depth s (r .tree) (r .next) (r .is)); rows-are = r .rows }
-
-  pub documents-accepted : (t : Tree) (next : ℕ) → length s ≤ limit → document depth s ≡ right t next → size t ≤ lent table → answer depth s table ≡ Accepted (size t)
+  -- "The reader accepts exactly the paper's documents, to the last byte": those whose rows are lent
+  pub accepts-exactly : (n : ℕ) → (answer depth s table ≡ Accepted n) ↔ (Document depth s n × (n ≤ lent table))
   unfolding answer
-  documents-accepted t next few e room = rw (le-leb (length s) limit few, e, le-leb (size t) (lent table) room)
+  accepts-exactly n = (
+    λ e.
+        let r = exact.accepted depth s table n e in
+        let q = r .is ∙ ap (right (r .tree)) (document-next depth s (r .tree) (r .next) (r .is)) in
+        (record { few = r .short; tree = r .tree; reads = q; rows-are = r .rows }, omega (arith, r .fits, r .rows)),
+    λ d.
+        let k = d .0 .rows-are in
+        rw (le-leb (length s) limit (d .0 .few), d .0 .reads, le-leb (size (d .0 .tree)) (lent table) (omega (arith, k, d .1)), k),
+  )
 
   -- "and gives exactly its rows": they stand from the front, with zeros behind them
-  pub gives-rows : (t : Tree) (next : ℕ) → length s ≤ limit → document depth s ≡ right t next → size t ≤ lent table → tableAfter depth s table ≡ sets (replicate (length table) 0) 0 (layout t 0 [])
+  pub gives-rows : (n : ℕ) (d : Document depth s n) → n ≤ lent table → tableAfter depth s table ≡ sets (replicate (length table) 0) 0 (layout (d .tree) 0 [])
   unfolding tableAfter
-  gives-rows t next few e room =
-      rw (le-leb (length s) limit few, e, le-leb (size t) (lent table) room, zeroed-all table)
+  gives-rows n d room =
+      rw (le-leb (length s) limit (d .few), d .reads, le-leb (size (d .tree)) (lent table) (omega (arith, d .rows-are, room)), zeroed-all table)
 
-  -- "full is said only when the whole document is right and needs more rows than lent"
-  pub full-is-right : (needed : ℕ) → answer depth s table ≡ Full needed → Read depth s table needed × (lent table < needed)
+  full-right : (needed : ℕ) → answer depth s table ≡ Full needed → Document depth s needed × (lent table < needed)
   unfolding answer
-  full-is-right needed = of (leb (length s) limit) (document depth s) refl
+  full-right needed = of (leb (length s) limit) (document depth s) refl refl
     where
-      room : (b : Bool) (t : Tree) (next : ℕ) → leb (size t) (lent table) ≡ b → document depth s ≡ right t next → cond b (Accepted (size t)) (Full (size t)) ≡ Full needed
-          → Read depth s table needed × (lent table < needed)
-      room true t next q e f = absurd (let z : _≡_ {A = ℕ} 0 1 = cc in omega arith)
-      room false t next q e f =
+      room : (b : Bool) (t : Tree) (next : ℕ) → leb (size t) (lent table) ≡ b → length s ≤ limit → document depth s ≡ right t next
+          → cond b (Accepted (size t)) (Full (size t)) ≡ Full needed → Document depth s needed × (lent table < needed)
+      room true t next q l e f = absurd (let z : _≡_ {A = ℕ} 0 1 = cc in omega arith)
+      room false t next q l e f =
           let k : size t ≡ needed = cc in
-          (record { tree = t; document = e ∙ ap (right t) (document-next depth s t next e); rows-are = k }, omega (arith, k, leb-false (size t) (lent table) q))
+          (record { few = l; tree = t; reads = e ∙ ap (right t) (document-next depth s t next e); rows-are = k }, omega (arith, k, leb-false (size t) (lent table) q))
 
-      of : (b : Bool) (r : Reading) → document depth s ≡ r → cond b (answerFor (lent table) r) TooLong ≡ Full needed → Read depth s table needed × (lent table < needed)
-      of true (right t next) e f = room (leb (size t) (lent table)) t next refl e f
-      of true (wrong y place) e f = absurd (let z : _≡_ {A = ℕ} 0 1 = cc in omega arith)
-      of false r e f = absurd (let z : _≡_ {A = ℕ} 0 1 = cc in omega arith)
+      of : (b : Bool) (r : Reading) → leb (length s) limit ≡ b → document depth s ≡ r → cond b (answerFor (lent table) r) TooLong ≡ Full needed
+          → Document depth s needed × (lent table < needed)
+      of true (right t next) l e f = room (leb (size t) (lent table)) t next refl (leb-true (length s) limit l) e f
+      of true (wrong y place) l e f = absurd (let z : _≡_ {A = ℕ} 0 1 = cc in omega arith)
+      of false r l e f = absurd (let z : _≡_ {A = ℕ} 0 1 = cc in omega arith)
+
+  -- "full is said only when the whole document is right and needs more rows than lent", and always then, with the rows needed
+  pub full-exactly : (needed : ℕ) → (answer depth s table ≡ Full needed) ↔ (Document depth s needed × (lent table < needed))
+  unfolding answer
+  full-exactly needed = (
+    full-right needed,
+    λ d.
+        let k = d .0 .rows-are in
+        rw (le-leb (length s) limit (d .0 .few), d .0 .reads, lt-leb (size (d .0 .tree)) (lent table) (omega (arith, k, d .1)), k),
+  )
 
   -- what the reader lays passes the check
   pub read-passes : (n : ℕ) → answer depth s table ≡ Accepted n → rulesHold depth (tableAfter depth s table) n s ≡ true
@@ -128,10 +147,10 @@ module _ (depth : ℕ) (table : List ℕ) (n : ℕ) (s : List ℕ) (fit : (i : �
   pub reads-back : (room : ℕ) (back : List ℕ) → ReadsBack depth table n s room back (backOf depth table n s room back) (tableBack depth table n s room back)
   reads-back room back = backs.reads-back depth table n s room back _ _ fit refl refl
 
-  -- "no document with those is shorter"
-  pub nothing-shorter : rulesHold depth table n s ≡ true → (s′ : List ℕ) → Bytes s′ → (table′ : List ℕ) (m : ℕ) → answer depth s′ table′ ≡ Accepted m
-      → Alike depth table n s (tableAfter depth s′ table′) m s′ → length (documentOf depth table n s) ≤ length s′
-  nothing-shorter y = reading.nothing-shorter depth table n s fit y
+-- "no document with those is shorter": with the same rows, places aside, and the same payload bytes
+pub nothing-shorter : (depth : ℕ) (table : List ℕ) (n : ℕ) (s : List ℕ) → rulesHold depth table n s ≡ true → (s′ : List ℕ) → Bytes s′ → (table′ : List ℕ) → answer depth s′ table′ ≡ Accepted n
+    → SameRows table s (tableAfter depth s′ table′) s′ n → length (documentOf depth table n s) ≤ length s′
+nothing-shorter = reading.nothing-shorter
 
 -- "Starred cases are proved": one list, one statement
 pub starred-hold : map outcome starred ≡ map wanted starred
@@ -159,12 +178,16 @@ module _ (depth : ℕ) (table : List ℕ) (n : ℕ) (s : List ℕ) where
     pub walks-inside : (ws : List Way) → AllInTable n (tableWalk table n ws (startOf n))
     walks-inside = meets.steps-inside depth table n s t st
 
+    -- "or 14", from a row reached along: its bound is the entry's own end, and on is 14 always
+    pub on-from-along : (at : Standing) (row bound : ℕ) → stepAlong table n at ≡ To row bound → (bound ≡ rowAt table row .end) × (stepOn table n (standing row bound) ≡ NoStep)
+    on-from-along at row bound e = (reached table n at row bound e .end, along.on-none depth table n s t st at row bound e)
+
     -- the payload of a row that a walk comes to is the tree's
     pub payload-right : (ws : List Way) → payloadAt table (tableEnd table n ws (startOf n) .row) s ≡ ownPart (treeOf (treeEnd ws (spot t 0 nil) nil))
     payload-right = meets.payload-right depth table n s t st
 
     -- "every payload lies in the data": of every row, a damaged body's too
-    pub payloads-inside : (row : ℕ) → row < n → hasBytes (named (rowAt table row .kind) (rowAt table row .w2)) ≡ true → rowAt table row .w0 + rowAt table row .w1 ≤ length s
+    pub payloads-inside : (row : ℕ) → row < n → hasBytes (named (ownOf (rowAt table row))) ≡ true → rowAt table row .w0 + rowAt table row .w1 ≤ length s
     unfolding Inside
     payloads-inside = yes-inside depth table n s (exact.stands-yes depth table n s t st)
 

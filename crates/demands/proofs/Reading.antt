@@ -12,12 +12,12 @@ use Rattle.format.specs.declared.answer.Answer.the-variants.{Accepted}
 use Rattle.format.specs.Tree.{Tree, size}
 use Rattle.format.specs.Value.{document, right}
 use Rattle.format.specs.Answer.{answer, tableAfter}
-use Rattle.format.proofs.Values.{Worded}
 use Rattle.rules.specs.Grow.{rulesHold}
 use Rattle.rules.specs.Fine.{Stands}
 use Rattle.rules.proofs.Exact.{yes-stands, laid-out, stands-grows, stands-yes, accepted, read-stands}
 use Rattle.encode.specs.Encode.{encode, placed}
 use Rattle.encode.specs.Said.{said}
+use Rattle.encode.proofs.Worded.{Worded}
 use Rattle.encode.proofs.Alike as written
 use Rattle.encode.proofs.Shortest as shortest
 use Rattle.writer.specs.Written.{documentOf}
@@ -25,6 +25,7 @@ use Rattle.writer.proofs.Asks.{stands-document}
 use Rattle.demands.specs.Alike.{says, saidBy, saying, Alike, SameRows}
 use Rattle.demands.proofs.Words.{tree-worded}
 use Rattle.demands.proofs.Rows.{placed-size, tree-same}
+use Rattle.demands.proofs.Same.{stands-say}
 
 -- the tree that stands in a table is what the table says
 stands-saying : (depth : ℕ) (table : List ℕ) (n : ℕ) (s : List ℕ) (t : Tree) → Stands depth table n s t → saying depth table n s ≡ says (said s t)
@@ -72,7 +73,7 @@ module _ (depth : ℕ) (table : List ℕ) (n : ℕ) (s : List ℕ) (fit : (i : �
       -- and gives the same rows, places aside, with the same payload bytes
       pub rows-back : SameRows table s (tableAfter depth D back) D n
       rows-back i l =
-          tree-same s D table (tableAfter depth D back) t 0 0 [] (drop (wordsPerRow * n) table) (drop (wordsPerRow * n) (tableAfter depth D back)) says-same (laid-out depth table n s t st)
+          tree-same s D table (tableAfter depth D back) t (suc depth) 0 (st .fine) 0 0 [] (drop (wordsPerRow * n) table) (drop (wordsPerRow * n) (tableAfter depth D back)) says-same (laid-out depth table n s t st)
           (laid-out depth (tableAfter depth D back) n D (placed s t 0) stands-back) i (omega arith) (omega (arith, l, st .rows))
 
       -- a table alike
@@ -87,11 +88,13 @@ module _ (depth : ℕ) (table : List ℕ) (n : ℕ) (s : List ℕ) (fit : (i : �
                 ∙ sym (stands-saying depth (tableAfter depth D back) n D (placed s t 0) stands-back);
           }
 
-  -- every document whose reading is alike has at least as many bytes
-  pub nothing-shorter : (s′ : List ℕ) → Bytes s′ → (table′ : List ℕ) (m : ℕ) → answer depth s′ table′ ≡ Accepted m → Alike depth table n s (tableAfter depth s′ table′) m s′ → length D ≤ length s′
-  nothing-shorter s′ b table′ m e a =
-      let r = accepted depth s′ table′ m e in
-      let q : says (said s t) ≡ says (said s′ (r .tree)) =
-      sym (stands-saying depth table n s t st) ∙ a .same ∙ stands-saying depth (tableAfter depth s′ table′) m s′ (r .tree) (read-stands depth s′ table′ m e (r .tree) (r .next) (r .is)) in
-      let z : said s′ (r .tree) ≡ said s t = cc in
-      omega (arith, ap length is, shortest.nothing-shorter depth s t (st .fine) depth s′ b (r .short) (r .tree) (r .next) (r .is) z)
+-- every document whose rows are the same, places aside, with the same payload bytes, has at least as many bytes
+pub nothing-shorter : (depth : ℕ) (table : List ℕ) (n : ℕ) (s : List ℕ) → rulesHold depth table n s ≡ true → (s′ : List ℕ) → Bytes s′ → (table′ : List ℕ) → answer depth s′ table′ ≡ Accepted n
+    → SameRows table s (tableAfter depth s′ table′) s′ n → length (documentOf depth table n s) ≤ length s′
+nothing-shorter depth table n s y s′ b table′ e same =
+    let t : Tree = yes-stands depth table n s y .0 in
+    let st : Stands depth table n s t = yes-stands depth table n s y .1 in
+    let r = accepted depth s′ table′ n e in
+    let st′ = read-stands depth s′ table′ n e (r .tree) (r .next) (r .is) in
+    let z : said s t ≡ said s′ (r .tree) = stands-say depth depth table (tableAfter depth s′ table′) n s s′ t (r .tree) st st′ same in
+    omega (arith, ap length (stands-document depth table n s t st), shortest.nothing-shorter s t depth s′ b (r .short) (r .tree) (r .next) (r .is) (sym z))

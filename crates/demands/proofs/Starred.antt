@@ -9,7 +9,7 @@ use Rattle.text.specs.Check.{sequence, textFrom, textOf}
 use Rattle.rows.specs.Table.{wordsOf, rowAt}
 use Rattle.format.specs.Tree.{size, sizes}
 use Rattle.format.specs.Head.{markerOf, countAt, stands, headAt, keyAt}
-use Rattle.format.specs.Value.{leafOf, child, run, step, value, document}
+use Rattle.format.specs.Value.{leafOwn, child, run, inForeign, step, value, document}
 use Rattle.format.specs.Layout.{entries, layout, layouts}
 use Rattle.format.specs.Answer.{answer, tableAfter}
 use Rattle.format.specs.Starred.{starred}
@@ -20,5 +20,5 @@ use Rattle.writer.specs.Written.{documentOf}
 use Rattle.demands.specs.Starred.{outcome, wanted}
 
 pub starred-hold : map outcome starred ≡ map wanted starred
-unfolding starred answer tableAfter document value step run child leafOf headAt keyAt stands countAt markerOf layout layouts entries size sizes zeroed wordsOf wideOf bodyValue behind unmarked marked coded sequence textFrom textOf whole documentOf grow grows item growKey byShape shapeOf fits spelt span oneOf inside blank named rowAt encode encodes headFor floatMarker form unmarkedForm rank holds
+unfolding starred answer tableAfter document value step run child leafOwn inForeign headAt keyAt stands countAt markerOf layout layouts entries size sizes zeroed wordsOf wideOf bodyValue behind unmarked marked coded sequence textFrom textOf whole documentOf grow grows item growKey byShape shapeOf fits spelt span oneOf inside blank named rowAt encode encodes headFor floatMarker form unmarkedForm rank holds
 starred-hold = refl

@@ -1,5 +1,6 @@
--- The tree of a table of 32-bit numbers has 32-bit words, and counts within the limit. By induction on the tree. Assumes nothing.
-use mathlib.Core.Path.{_≡_, refl, ap, _∙_, subst}
+-- The tree of a table of 32-bit numbers may be written: its numbers fit a row, and counts are within the limit. By induction on the tree.
+-- Assumes nothing.
+use mathlib.Core.Path.{_≡_, refl, _∙_, subst}
 use mathlib.Core.Bool.{Bool, true, false}
 use mathlib.Core.List.{List, [], _++_, append-assoc}
 use Prim.Native.Nat.{ℕ, suc, _+_, _-_, _*_, _^_, _≤_, _<_}
@@ -7,40 +8,18 @@ use native.Mathlib.Omega.{arith}
 use lib.ListN.{getD, drop}
 use Rattle.wide.proofs.Ranks.{apart}
 use Rattle.rows.specs.declared.row.Row.{Row}
-use Rattle.rows.specs.Table.{wordsPerRow, wordsOf, rowAt, limit}
-use Rattle.rows.specs.Kinds.{leafRow, holderRow, declarationRow}
-use Rattle.rows.proofs.Rows.{length-words, row-words}
+use Rattle.rows.specs.Table.{wordsPerRow, ownOf, rowAt, limit}
 use Rattle.format.specs.declared.head.Holder.{Holder}
 use Rattle.format.specs.declared.head.Holder.the-variants.{Array, Record, Map}
 use Rattle.format.specs.declared.head.Children.{Children}
-use Rattle.format.specs.declared.head.Children.the-variants.{Growing}
-use Rattle.format.specs.Tree.{Tree, leaf, refer, hold, declare, Trees, none, more, many, size, sizes}
-use Rattle.format.specs.Value.{childCount, isKey}
-use Rattle.format.specs.Layout.{isEntry, layout, layouts, grown, entries}
-use Rattle.format.proofs.Layouts.{no-entry, length-layout, length-layouts}
-use Rattle.format.proofs.Values.{LeafWords, Worded, Wordeds}
-use Rattle.rules.specs.declared.kind.Kind.{Kind}
-use Rattle.rules.specs.declared.kind.Kind.the-variants.{Whole}
-use Rattle.rules.specs.declared.shape.Shape.the-variants as shape
-use Rattle.rules.specs.Shape.{named, fits}
-use Rattle.rules.specs.Fine.{HoldFine, holder, foreign, KeyFine, Either, after, Fine, Fines}
-use Rattle.rules.proofs.Says.{blank-first}
-use Rattle.rules.proofs.Regrow.{behind}
-use Rattle.encode.proofs.Again.{told-of, whole-kind}
-
--- ---- every tree has a row
-
-pub size-some : (t : Tree) → 1 ≤ size t
-unfolding size
-size-some (leaf kind w0 w1 w2 w3) = omega arith
-size-some (refer number) = omega arith
-size-some (hold kind count ts) = omega arith
-size-some (declare count es t) = omega arith
-
-pub many-sizes : (ts : Trees) → many ts ≤ sizes ts
-unfolding many size
-many-sizes none = omega arith
-many-sizes (more t ts) = omega (arith, size-some t, many-sizes ts)
+use Rattle.format.specs.declared.head.Children.the-variants.{Entries}
+use Rattle.format.specs.Tree.{Tree, leaf, refer, hold, declare, foreign, damaged, Trees, none, more, many, size, sizes}
+use Rattle.format.specs.Value.{childCount, childrenOf, inForeign, isKey}
+use Rattle.format.specs.Layout.{isEntry, layout, layouts, grown, entries, inBody}
+use Rattle.format.proofs.Layouts.{no-entry, in-foreign-few, length-layout, length-layouts, top-at, sizes-many}
+use Rattle.rules.specs.Fine.{KeyFine, IfKey, after, Fine, Fines}
+use Rattle.rules.proofs.Regrow.{behind, rest-at}
+use Rattle.encode.proofs.Worded.{Fit, Worded, Wordeds}
 
 -- ---- counts
 
@@ -49,23 +28,7 @@ count-holder Array count n e = omega arith
 count-holder Record count n e = omega arith
 count-holder Map count n e = omega arith
 
-count-few : (s : List ℕ) (k kind count n : ℕ) (c : Children) (k′ : ℕ) → HoldFine s k kind count n c k′ → count ≤ n
-unfolding fits
-count-few s k kind count n c k′ (holder h e num _ _) = count-holder h count n num
-count-few s k kind count n c k′ (foreign e num _ _) =
-    let t = told-of s kind count 0 0 0 shape.Whole e (λ z. let y : _≡_ {A = ℕ} 0 1 = cc in omega arith) in
-    let f : fits s count 0 0 0 Whole ≡ true = subst (λ (K : Kind). fits s count 0 0 0 K ≡ true) (whole-kind (named kind 0) (t .is)) (t .right) in
-    omega (arith, blank-first count 0 0 0 f)
-
 -- ---- entries in force
-
-plain-holder : (s : List ℕ) (k kind count n : ℕ) (c : Children) (k′ : ℕ) → HoldFine s k kind count n c k′ → isEntry c ≡ false
-plain-holder s k kind count n c k′ (holder h e _ cs _) = ap isEntry cs ∙ no-entry h
-plain-holder s k kind count n c k′ (foreign e _ cs _) = ap isEntry cs
-
-force-few : (s : List ℕ) (k kind count n : ℕ) (c : Children) (k′ : ℕ) → HoldFine s k kind count n c k′ → k ≤ limit → k′ ≤ limit
-force-few s k kind count n c k′ (holder h e _ _ f) l = omega arith
-force-few s k kind count n c k′ (foreign e _ _ f) l = omega arith
 
 after-few : (b : Bool) (k m : ℕ) → k ≤ limit → (b ≡ true → k + suc m ≤ limit) → after b k ≤ limit
 after-few true k m l f = omega (arith, f refl)
@@ -78,58 +41,50 @@ after-left false k m f e = absurd (let z : _≡_ {A = ℕ} 0 1 = cc in omega ari
 -- ---- trees
 
 module _ (table s : List ℕ) (n : ℕ) (few : n ≤ limit) (fit : (i : ℕ) → getD table i 0 < 2 ^ 32) where
-  row-fits : (row : ℕ) → LeafWords (rowAt table row .kind) (rowAt table row .w0) (rowAt table row .w1) (rowAt table row .w2) (rowAt table row .w3)
+  row-fits : (row : ℕ) → Fit (ownOf (rowAt table row))
   unfolding rowAt
   row-fits row = record { kind-fits = fit _; w0-fits = fit _; w1-fits = fit _; w2-fits = fit _; w3-fits = fit _ }
 
-  words-fit : (row : ℕ) (w : Row) (rest : List ℕ) → drop (wordsPerRow * row) table ≡ wordsOf w ++ rest → LeafWords (w .kind) (w .w0) (w .w1) (w .w2) (w .w3)
-  words-fit row w rest h = subst (λ (v : Row). LeafWords (v .kind) (v .w0) (v .w1) (v .w2) (v .w3)) (row-words table row w rest h) (row-fits row)
-
   key-worded : (t : Tree) (row : ℕ) (registry rest : List ℕ) → KeyFine s t → drop (wordsPerRow * row) table ≡ layout t row registry ++ rest → Worded t
-  unfolding KeyFine layout
-  key-worded (leaf kind w0 w1 w2 w3) row registry rest f h = words-fit row (leafRow kind row w0 w1 w2 w3) rest h
-  key-worded (refer number) row registry rest f h = absurd f
-  key-worded (hold kind count ts) row registry rest f h = absurd f
-  key-worded (declare count es t) row registry rest f h = absurd f
+  unfolding KeyFine
+  key-worded (leaf o) row registry rest f h = subst (λ (w : Row). Fit (ownOf w)) (top-at table (leaf o) row registry rest h) (row-fits row)
+  key-worded (refer o) row registry rest f h = absurd f
+  key-worded (hold o ts) row registry rest f h = absurd f
+  key-worded (declare o es t) row registry rest f h = absurd f
+  key-worded (foreign o t) row registry rest f h = absurd f
+  key-worded (damaged o) row registry rest f h = absurd f
 
-  either-worded : (b : Bool) (t : Tree) (d k row : ℕ) (registry rest : List ℕ) → (Fine s d k t → Worded t) → Either b (KeyFine s t) (Fine s d k t)
+  item-worded : (b : Bool) (t : Tree) (d k row : ℕ) (registry rest : List ℕ) → (Fine s d k t → Worded t) → IfKey b (KeyFine s t) (Fine s d k t)
       → drop (wordsPerRow * row) table ≡ layout t row registry ++ rest → Worded t
-  either-worded true t d k row registry rest g f h = key-worded t row registry rest f h
-  either-worded false t d k row registry rest g f h = g f
+  item-worded true t d k row registry rest g f h = key-worded t row registry rest f h
+  item-worded false t d k row registry rest g f h = g f
 
   mutual
     unfolding layout size Fine many
 
     pub tree-worded : (t : Tree) (d k row : ℕ) (registry rest : List ℕ) → k ≤ limit → Fine s d k t → drop (wordsPerRow * row) table ≡ layout t row registry ++ rest → row + size t ≤ n → Worded t
-    tree-worded (leaf kind w0 w1 w2 w3) d k row registry rest l f h b = words-fit row (leafRow kind row w0 w1 w2 w3) rest h
-    tree-worded (refer number) d k row registry rest l f h b = omega (arith, f .1)
-    tree-worded (hold kind count ts) d k row registry rest l f h b =
-        let w : Row = holderRow kind (row + (1 + sizes ts)) count in
-        let L : List ℕ = layouts ts false (row + 1) registry in
-        let u : drop (wordsPerRow * row) table ≡ wordsOf w ++ (L ++ rest) = h ∙ append-assoc (wordsOf w) L rest in
-        let v : drop (wordsPerRow * (row + 1)) table ≡ L ++ rest = behind table row 1 (wordsOf w) (L ++ rest) (length-words w) u in
-        record {
-          kind-fits = words-fit row w (L ++ rest) u .kind-fits;
-          few = omega (arith, count-few s k kind count (many ts) (f .1 .0) (f .1 .1) (f .1 .2), many-sizes ts);
-          children =
-              trees-worded ts (d - 1) (f .1 .0) (f .1 .1) 0 (row + 1) false registry rest (force-few s k kind count (many ts) (f .1 .0) (f .1 .1) (f .1 .2) l)
-              (λ e. apart (isEntry (f .1 .0)) e (plain-holder s k kind count (many ts) (f .1 .0) (f .1 .1) (f .1 .2))) (f .1 .3) v (omega arith);
-        }
-    tree-worded (declare count es t) d k row registry rest l f h b =
-        let w : Row = declarationRow (row + (1 + (sizes es + size t))) count in
+    tree-worded (leaf o) d k row registry rest l f h b = subst (λ (w : Row). Fit (ownOf w)) (top-at table (leaf o) row registry rest h) (row-fits row)
+    tree-worded (refer o) d k row registry rest l f h b = omega (arith, f .3)
+    tree-worded (hold o ts) d k row registry rest l f h b =
+        let x : Holder = f .1 .0 in (
+          omega (arith, count-holder x (o .w0) (many ts) (f .1 .2), sizes-many ts),
+          trees-worded ts (d - 1) (childrenOf x) k 0 (row + 1) false registry rest l
+              (λ e. apart (isEntry (childrenOf x)) e (no-entry x)) (f .1 .3) (rest-at table row registry rest (hold o ts) h) (omega arith),
+        )
+    tree-worded (declare o es t) d k row registry rest l f h b =
         let A : List ℕ = entries es (row + 1) [] in
         let E : List ℕ = layouts es true (row + 1) [] in
         let U : List ℕ = layout t (row + 1 + sizes es) A in
-        let u : drop (wordsPerRow * row) table ≡ wordsOf w ++ (E ++ (U ++ rest)) = h ∙ append-assoc (wordsOf w) (E ++ U) rest ∙ ap (λ (x : List ℕ). wordsOf w ++ x) (append-assoc E U rest) in
-        let v : drop (wordsPerRow * (row + 1)) table ≡ E ++ (U ++ rest) = behind table row 1 (wordsOf w) (E ++ (U ++ rest)) (length-words w) u in
+        let v : drop (wordsPerRow * (row + 1)) table ≡ E ++ (U ++ rest) = rest-at table row registry rest (declare o es t) h ∙ append-assoc E U rest in
         let v′ : drop (wordsPerRow * (row + 1 + sizes es)) table ≡ U ++ rest = behind table (row + 1) (sizes es) E (U ++ rest) (length-layouts es true (row + 1) []) v in
-        let m : count ≤ sizes es = omega (arith, f .2, many-sizes es) in
-        record {
-          some = f .1;
-          few = omega arith;
-          entries = trees-worded es (d - 1) Growing 0 0 (row + 1) true [] (U ++ rest) (omega arith) (λ _. omega (arith, f .2)) (f .3) v (omega arith);
-          body = tree-worded t (d - 1) count (row + 1 + sizes es) A rest (omega arith) (f .4) v′ (omega arith);
-        }
+        let m : o .w0 ≤ sizes es = omega (arith, f .2, sizes-many es) in (
+          omega arith,
+          trees-worded es (d - 1) Entries 0 0 (row + 1) true [] (U ++ rest) (omega arith) (λ _. omega (arith, f .2)) (f .3) v (omega arith),
+          tree-worded t (d - 1) (o .w0) (row + 1 + sizes es) A rest (omega arith) (f .4) v′ (omega arith),
+        )
+    tree-worded (foreign o t) d k row registry rest l f h b =
+        tree-worded t (d - 1) (inForeign k) (row + 1) (inBody registry) rest (omega (arith, in-foreign-few k)) (f .2) (rest-at table row registry rest (foreign o t) h) (omega arith)
+    tree-worded (damaged o) d k row registry rest l f h b = tt
 
     trees-worded : (ts : Trees) (d : ℕ) (c : Children) (k i row : ℕ) (grows : Bool) (registry rest : List ℕ) → k ≤ limit → (isEntry c ≡ true → k + many ts ≤ limit) → Fines s d c k i ts
         → drop (wordsPerRow * row) table ≡ layouts ts grows row registry ++ rest → row + sizes ts ≤ n → Wordeds ts
@@ -140,6 +95,6 @@ module _ (table s : List ℕ) (n : ℕ) (few : n ≤ limit) (fit : (i : ℕ) →
         let L : List ℕ = layouts ts grows (row + size t) R in
         let u : drop (wordsPerRow * row) table ≡ T ++ (L ++ rest) = h ∙ append-assoc T L rest in
         let v : drop (wordsPerRow * (row + size t)) table ≡ L ++ rest = behind table row (size t) T (L ++ rest) (length-layout t row registry) u in (
-          either-worded (isKey c i) t d k row registry (L ++ rest) (λ q. tree-worded t d k row registry (L ++ rest) l q u (omega arith)) (f .0) u,
+          item-worded (isKey c i) t d k row registry (L ++ rest) (λ q. tree-worded t d k row registry (L ++ rest) l q u (omega arith)) (f .0) u,
           trees-worded ts d c (after (isEntry c) k) (i + 1) (row + size t) grows R rest (after-few (isEntry c) k (many ts) l g) (after-left (isEntry c) k (many ts) g) (f .1) v (omega arith),
         )

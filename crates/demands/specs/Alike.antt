@@ -5,7 +5,7 @@ use mathlib.Core.List.{List, []}
 use Prim.Native.Nat.{ℕ, suc, _<_}
 use lib.ListN.{take, drop}
 use Rattle.rows.specs.declared.row.Row.{Row}
-use Rattle.rows.specs.Table.{rowAt}
+use Rattle.rows.specs.Table.{ownOf, rowAt}
 use Rattle.rules.specs.Shape.{named}
 use Rattle.rules.specs.Grow.{Growth, grew, bad, grow, rulesHold}
 use Rattle.encode.specs.Encode.{hasBytes}
@@ -21,7 +21,7 @@ saidBy s (grew t next) = says (said s t)
 saidBy s bad = nothing
 
 unfoldable pub saying : ℕ → List ℕ → ℕ → List ℕ → Saying
-saying depth table n s = saidBy s (grow (suc depth) table n s [] 0)
+saying depth table n s = saidBy s (grow table n s (suc depth) [] 0)
 
 -- "reads back as the same rows and payload bytes, places aside": both obey the row rules and say the same
 pub record Alike (depth : ℕ) (table : List ℕ) (n : ℕ) (s : List ℕ) (table′ : List ℕ) (n′ : ℕ) (s′ : List ℕ) : Type 0 where
@@ -34,11 +34,11 @@ pub record SameRow (s : List ℕ) (w : Row) (s′ : List ℕ) (w′ : Row) : Typ
   pub kind : w .kind ≡ w′ .kind
   pub end : w .end ≡ w′ .end
   -- a word that is no place
-  pub w0 : hasBytes (named (w .kind) (w .w2)) ≡ false → w .w0 ≡ w′ .w0
+  pub w0 : hasBytes (named (ownOf w)) ≡ false → w .w0 ≡ w′ .w0
   pub w1 : w .w1 ≡ w′ .w1
   pub w2 : w .w2 ≡ w′ .w2
   pub w3 : w .w3 ≡ w′ .w3
-  pub payload : hasBytes (named (w .kind) (w .w2)) ≡ true → take (w .w1) (drop (w .w0) s) ≡ take (w′ .w1) (drop (w′ .w0) s′)
+  pub payload : hasBytes (named (ownOf w)) ≡ true → take (w .w1) (drop (w .w0) s) ≡ take (w′ .w1) (drop (w′ .w0) s′)
 
 abbrev pub SameRows : List ℕ → List ℕ → List ℕ → List ℕ → ℕ → Type 0
 SameRows table s table′ s′ n = (i : ℕ) → i < n → SameRow s (rowAt table i) s′ (rowAt table′ i)

@@ -7,29 +7,29 @@ use mathlib.Core.Bool.{Bool, true, false, cond}
 use mathlib.Core.List.{List, [], _++_, append-nil}
 use lib.ListN.{length, take, drop}
 use borrow.Author.Tests.{eq-eqb}
-use Rattle.lists.proofs.Tests.{and-first}
-use Rattle.rows.specs.Table.{limit}
+use Rattle.lists.proofs.Tests.{and-first, and-second}
+use lib.Dec.{eqb}
+use Rattle.rows.specs.Table.{Own, limit}
+use Rattle.rows.specs.Kinds.{kindKey, own}
 use Rattle.format.specs.declared.head.Children.{Children}
-use Rattle.format.specs.declared.head.Children.the-variants.{Growing}
+use Rattle.format.specs.declared.head.Children.the-variants.{Entries}
 use Rattle.format.specs.Head.{floatSizes}
-use Rattle.wide.specs.Family.{form}
-use Rattle.wide.specs.Members.{declarationCount}
-use Rattle.format.specs.Tree.{Tree, leaf, refer, hold, declare, Trees}
+use Rattle.format.specs.Tree.{Tree, leaf, refer, hold, declare, foreign, damaged, Trees}
 use Rattle.format.specs.Tree as trees
-use Rattle.format.specs.Value.{right, whole, document, isKey}
-use Rattle.format.proofs.Values.{Worded}
+use Rattle.format.specs.Value.{right, childrenOf, inForeign, whole, document, isKey}
 use Rattle.rules.specs.declared.kind.Kind.{Kind}
-use Rattle.rules.specs.declared.kind.Kind.the-variants.{Constant, Small, Signed, Unsigned, Float, Text, Holds, Binary, Char, Reference, Declaration, Whole, Damaged, Other}
+use Rattle.rules.specs.declared.kind.Kind.the-variants.{Constant, Small, Signed, Unsigned, Float, Text, Holds, Binary, Char, Reference, Declaration, Whole, Damaged, Key, Unknown}
 use Rattle.rules.specs.declared.shape.Shape.the-variants as shape
-use Rattle.rules.specs.Shape.{named, oneOf, span, fits}
-use Rattle.rules.specs.Fine.{LeafFine, plain, damaged, KeyFine, Either, Fine, Fines}
+use Rattle.rules.specs.Shape.{named, oneOf, span, spelt, fits, shapeOf, keyFits}
+use Rattle.rules.specs.Fine.{KeyFine, IfKey, Fine, Fines}
 use Rattle.rules.proofs.Judged.{span-within}
-use Rattle.rules.proofs.Says.{spelt-within}
-use Rattle.encode.specs.Encode.{headFor, hasBytes, payload, encode, encodes, placed, placeds}
-use Rattle.encode.specs.Said.{bytes, group, under, none, more, saidLeaf, said, saids}
+use Rattle.rules.proofs.Says.{spelt-within, damaged-inside}
+use Rattle.encode.specs.Encode.{headOf, hasBytes, payload, moved, encode, encodes, placed, placeds}
+use Rattle.encode.specs.Said.{Said, one, over, under, none, more, said, saids}
 use Rattle.encode.proofs.Fronts.{Stand, stand-first, stand-second}
 use Rattle.encode.proofs.Leaves.{payload-there}
 use Rattle.encode.proofs.Back.{part-long}
+use Rattle.encode.proofs.Worded.{Worded}
 use Rattle.encode.proofs.Again.{told-of, again}
 
 -- ---- payloads lie in the data
@@ -37,75 +37,88 @@ use Rattle.encode.proofs.Again.{told-of, again}
 no-true : false ≡ true → ⊥
 no-true e = let z : _≡_ {A = ℕ} 0 1 = cc in omega arith
 
--- words that fit a kind with a payload have it in the data; a key's are asked apart
-fits-inside : (s : List ℕ) (w0 w1 w2 w3 : ℕ) (K : Kind) → hasBytes K ≡ true → fits s w0 w1 w2 w3 K ≡ true → w0 + w1 ≤ length s
+-- what fits a kind with a payload has it in the data
+fits-inside : (s : List ℕ) (o : Own) (K : Kind) → hasBytes K ≡ true → fits s o K ≡ true → o .w0 + o .w1 ≤ length s
 unfolding fits
-fits-inside s w0 w1 w2 w3 Constant b f = absurd (no-true b)
-fits-inside s w0 w1 w2 w3 Small b f = absurd (no-true b)
-fits-inside s w0 w1 w2 w3 Signed b f = absurd (no-true b)
-fits-inside s w0 w1 w2 w3 Unsigned b f = absurd (no-true b)
-fits-inside s w0 w1 w2 w3 Float b f = span-within s w0 w1 w2 w3 (and-first (span s w0 w1 w2 w3) (oneOf floatSizes w1) f)
-fits-inside s w0 w1 w2 w3 Text b f = spelt-within s w0 w1 w2 w3 f
-fits-inside s w0 w1 w2 w3 (Holds h) b f = absurd (no-true b)
-fits-inside s w0 w1 w2 w3 Binary b f = span-within s w0 w1 w2 w3 f
-fits-inside s w0 w1 w2 w3 Char b f = absurd (no-true b)
-fits-inside s w0 w1 w2 w3 Reference b f = absurd (no-true b)
-fits-inside s w0 w1 w2 w3 Declaration b f = absurd (no-true b)
-fits-inside s w0 w1 w2 w3 Whole b f = absurd (no-true b)
-fits-inside s w0 w1 w2 w3 Damaged b f = span-within s w0 w1 0 w3 f
-fits-inside s w0 w1 w2 w3 Other b f = absurd (no-true f)
+fits-inside s o Constant b f = absurd (no-true b)
+fits-inside s o Small b f = absurd (no-true b)
+fits-inside s o Signed b f = absurd (no-true b)
+fits-inside s o Unsigned b f = absurd (no-true b)
+fits-inside s o Float b f = span-within s (o .w0) (o .w1) (o .w2) (o .w3) (and-first (span s (o .w0) (o .w1) (o .w2) (o .w3)) (oneOf floatSizes (o .w1)) f)
+fits-inside s o Text b f = spelt-within s (o .w0) (o .w1) (o .w2) (o .w3) f
+fits-inside s o (Holds h) b f = absurd (no-true b)
+fits-inside s o Binary b f = span-within s (o .w0) (o .w1) (o .w2) (o .w3) f
+fits-inside s o Char b f = absurd (no-true b)
+fits-inside s o Reference b f = absurd (no-true b)
+fits-inside s o Declaration b f = absurd (no-true b)
+fits-inside s o Whole b f = absurd (no-true b)
+fits-inside s o Damaged b f = span-within s (o .w0) (o .w1) 0 (o .w3) f
+fits-inside s o Key b f = spelt-within s (o .w0) (o .w1) (o .w2) (o .w3) f
+fits-inside s o Unknown b f = absurd (no-true f)
 
-pub leaf-inside : (s : List ℕ) (d k kind w0 w1 w2 w3 : ℕ) → LeafFine s d k kind w0 w1 w2 w3 → hasBytes (named kind w2) ≡ true → w0 + w1 ≤ length s
-leaf-inside s d k kind w0 w1 w2 w3 (plain e) b =
-    fits-inside s w0 w1 w2 w3 (named kind w2) b (told-of s kind w0 w1 w2 w3 shape.Leaf e (λ z. let y : _≡_ {A = ℕ} 0 1 = cc in omega arith) .right)
-leaf-inside s d k kind w0 w1 w2 w3 (damaged e r p v u) b =
-    fits-inside s w0 w1 w2 w3 (named kind w2) b (told-of s kind w0 w1 w2 w3 shape.Damaged e (λ z. let y : _≡_ {A = ℕ} 0 1 = cc in omega arith) .right)
+pub leaf-inside : (s : List ℕ) (o : Own) → shapeOf s o ≡ shape.Leaf → hasBytes (named o) ≡ true → o .w0 + o .w1 ≤ length s
+leaf-inside s o e b = fits-inside s o (named o) b (told-of s o shape.Leaf e (λ z. let y : _≡_ {A = ℕ} 0 1 = cc in omega arith) .right)
 
--- ---- a leaf
+pub key-inside : (s : List ℕ) (o : Own) → keyFits s o ≡ true → o .w0 + o .w1 ≤ length s
+key-inside s o f = spelt-within s (o .w0) (o .w1) (o .w2) (o .w3) (and-second (eqb (o .kind) kindKey) (spelt s (o .w0) (o .w1) (o .w2) (o .w3)) f)
 
-leaf-like : (s s′ : List ℕ) (at stop kind w0 w1 w2 w3 : ℕ) (K : Kind) → (hasBytes K ≡ true → w0 + w1 ≤ length s) → Stand s′ at stop (headFor kind w0 w1 w2 w3 0 K ++ payload s w0 w1 K)
-    → saidLeaf (hasBytes K) s′ kind (cond (hasBytes K) (at + length (headFor kind w0 w1 w2 w3 0 K)) w0) w1 w2 w3 ≡ saidLeaf (hasBytes K) s kind w0 w1 w2 w3
-leaf-like s s′ at stop kind w0 w1 w2 w3 K f = of (hasBytes K) f
+-- ---- a row with no child
+
+-- its payload stands behind its head, and is the same
+one-like : (s s′ : List ℕ) (at stop : ℕ) (o : Own) → (hasBytes (named o) ≡ true → o .w0 + o .w1 ≤ length s) → Stand s′ at stop (headOf o 0 ++ payload s o)
+    → one (moved (moved o (at + length (headOf o 0))) 0) (payload s′ (moved o (at + length (headOf o 0)))) ≡ one (moved o 0) (payload s o)
+unfolding named
+one-like s s′ at stop o f = of (hasBytes (named o)) f
   where
-    of : (b : Bool) → (b ≡ true → w0 + w1 ≤ length s) → Stand s′ at stop (headFor kind w0 w1 w2 w3 0 K ++ cond b (take w1 (drop w0 s)) [])
-        → saidLeaf b s′ kind (cond b (at + length (headFor kind w0 w1 w2 w3 0 K)) w0) w1 w2 w3 ≡ saidLeaf b s kind w0 w1 w2 w3
-    of true g h = ap (bytes kind w2 w3) (payload-there s′ at stop (headFor kind w0 w1 w2 w3 0 K) (take w1 (drop w0 s)) w1 h (part-long s w0 w1 (g refl)))
+    -- whether it has a payload is told by its kind and w2 alone
+    of : (b : Bool) → (b ≡ true → o .w0 + o .w1 ≤ length s) → Stand s′ at stop (headOf o 0 ++ cond b (take (o .w1) (drop (o .w0) s)) [])
+        → one (own (o .kind) (cond b 0 (cond b (at + length (headOf o 0)) (o .w0))) (o .w1) (o .w2) (o .w3)) (cond b (take (o .w1) (drop (cond b (at + length (headOf o 0)) (o .w0)) s′)) [])
+        ≡ one (own (o .kind) (cond b 0 (o .w0)) (o .w1) (o .w2) (o .w3)) (cond b (take (o .w1) (drop (o .w0) s)) [])
+    of true g h =
+        ap (one (own (o .kind) 0 (o .w1) (o .w2) (o .w3)))
+        (payload-there s′ at stop (headOf o 0) (take (o .w1) (drop (o .w0) s)) (o .w1) h (part-long s (o .w0) (o .w1) (g refl)))
     of false g h = refl
 
 key-like : (s s′ : List ℕ) (at stop : ℕ) (t : Tree) → KeyFine s t → Stand s′ at stop (encode s t) → said s′ (placed s t at) ≡ said s t
 unfolding KeyFine encode placed said
-key-like s s′ at stop (leaf kind w0 w1 w2 w3) f h = leaf-like s s′ at stop kind w0 w1 w2 w3 (named kind w2) (λ _. spelt-within s w0 w1 w2 w3 (f .1)) h
-key-like s s′ at stop (refer number) f h = absurd f
-key-like s s′ at stop (hold kind count ts) f h = absurd f
-key-like s s′ at stop (declare count es t) f h = absurd f
+key-like s s′ at stop (leaf o) f h = one-like s s′ at stop o (λ _. key-inside s o f) h
+key-like s s′ at stop (refer o) f h = absurd f
+key-like s s′ at stop (hold o ts) f h = absurd f
+key-like s s′ at stop (declare o es t) f h = absurd f
+key-like s s′ at stop (foreign o t) f h = absurd f
+key-like s s′ at stop (damaged o) f h = absurd f
 
 -- ---- trees
 
-either-like : (s s′ : List ℕ) (at stop : ℕ) (t : Tree) (d k : ℕ) → (Fine s d k t → said s′ (placed s t at) ≡ said s t) → (b : Bool) → Either b (KeyFine s t) (Fine s d k t) → Stand s′ at stop (encode s t)
+item-like : (s s′ : List ℕ) (at stop : ℕ) (t : Tree) (d k : ℕ) → (Fine s d k t → said s′ (placed s t at) ≡ said s t) → (b : Bool) → IfKey b (KeyFine s t) (Fine s d k t) → Stand s′ at stop (encode s t)
     → said s′ (placed s t at) ≡ said s t
-either-like s s′ at stop t d k f true g h = key-like s s′ at stop t g h
-either-like s s′ at stop t d k f false g h = f g
+item-like s s′ at stop t d k f true g h = key-like s s′ at stop t g h
+item-like s s′ at stop t d k f false g h = f g
 
 module _ (s s′ : List ℕ) where
   mutual
     unfolding Fine encode placed said
 
     pub alike : (t : Tree) (d k at stop : ℕ) → Fine s d k t → Stand s′ at stop (encode s t) → said s′ (placed s t at) ≡ said s t
-    alike (leaf kind w0 w1 w2 w3) d k at stop f h = leaf-like s s′ at stop kind w0 w1 w2 w3 (named kind w2) (leaf-inside s (d - 1) k kind w0 w1 w2 w3 (f .1)) h
-    alike (refer number) d k at stop f h = refl
-    alike (hold kind count ts) d k at stop f h =
-        let H : List ℕ = headFor kind count 0 0 0 (length (encodes s ts)) (named kind 0) in
-        ap (group kind count) (alikes ts (d - 1) (f .1 .0) (f .1 .1) 0 (at + length H) stop (f .1 .3) (stand-second s′ at stop H (encodes s ts) h))
-    alike (declare count es t) d k at stop f h =
-        let F : List ℕ = form declarationCount count in
+    alike (leaf o) d k at stop f h = one-like s s′ at stop o (leaf-inside s o (f .1)) h
+    alike (refer o) d k at stop f h = refl
+    alike (hold o ts) d k at stop f h =
+        let H : List ℕ = headOf o (length (encodes s ts)) in
+        ap (over o) (alikes ts (d - 1) (childrenOf (f .1 .0)) k 0 (at + length H) stop (f .1 .3) (stand-second s′ at stop H (encodes s ts) h))
+    alike (declare o es t) d k at stop f h =
+        let F : List ℕ = headOf o (length (encodes s es ++ encode s t)) in
         let h′ = stand-second s′ at stop F (encodes s es ++ encode s t) h in
-        ap₂ (under count) (alikes es (d - 1) Growing 0 0 (at + length F) stop (f .3) (stand-first s′ (at + length F) stop (encodes s es) (encode s t) h′))
-        (alike t (d - 1) count (at + length F + length (encodes s es)) stop (f .4) (stand-second s′ (at + length F) stop (encodes s es) (encode s t) h′))
+        ap₂ (under o) (alikes es (d - 1) Entries 0 0 (at + length F) stop (f .3) (stand-first s′ (at + length F) stop (encodes s es) (encode s t) h′))
+        (alike t (d - 1) (o .w0) (at + length F + length (encodes s es)) stop (f .4) (stand-second s′ (at + length F) stop (encodes s es) (encode s t) h′))
+    alike (foreign o t) d k at stop f h =
+        let H : List ℕ = headOf o (length (encode s t)) in
+        ap (λ (x : Said). over o (more x none)) (alike t (d - 1) (inForeign k) (at + length H) stop (f .2) (stand-second s′ at stop H (encode s t) h))
+    alike (damaged o) d k at stop f h = one-like s s′ at stop o (λ _. damaged-inside s o (f .1)) h
 
     pub alikes : (ts : Trees) (d : ℕ) (c : Children) (k i at stop : ℕ) → Fines s d c k i ts → Stand s′ at stop (encodes s ts) → saids s′ (placeds s ts at) ≡ saids s ts
     alikes trees.none d c k i at stop f h = refl
     alikes (trees.more t ts) d c k i at stop f h =
-        ap₂ more (either-like s s′ at stop t d k (λ g. alike t d k at stop g (stand-first s′ at stop (encode s t) (encodes s ts) h)) (isKey c i) (f .0) (stand-first s′ at stop (encode s t) (encodes s ts) h))
+        ap₂ more (item-like s s′ at stop t d k (λ g. alike t d k at stop g (stand-first s′ at stop (encode s t) (encodes s ts) h)) (isKey c i) (f .0) (stand-first s′ at stop (encode s t) (encodes s ts) h))
         (alikes ts d c _ (i + 1) (at + length (encode s t)) stop (f .1) (stand-second s′ at stop (encode s t) (encodes s ts) h))
 
 -- ---- a document

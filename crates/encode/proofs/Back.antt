@@ -24,23 +24,23 @@ use Rattle.wide.proofs.Numbers.{length-bytesOf}
 use Rattle.text.specs.declared.answer.Text.{Text}
 use Rattle.text.specs.declared.answer.Text.the-variants.{WellFormed, IllFormed}
 use Rattle.text.specs.Check.{textOf, wellFormed}
-use Rattle.rows.specs.Table.{limit}
-use Rattle.rows.specs.Kinds.{kindSmall, kindSigned, kindUnsigned, kindFloat, kindText, kindBinary}
+use Rattle.rows.specs.Table.{Own, limit}
+use Rattle.rows.specs.Kinds.{kindSmall, kindSigned, kindUnsigned, kindFloat, kindText, kindBinary, own}
 use Rattle.format.specs.declared.head.Content.{Content}
 use Rattle.format.specs.declared.head.Content.the-variants as holds
 use Rattle.format.specs.declared.head.Head.the-variants as stand
 use Rattle.format.specs.Head.{codepoint, floatSizes, floatSize, headAt}
-use Rattle.format.specs.Tree.{Tree, leaf}
-use Rattle.format.specs.Value.{right, integerKind, integerOf, leafOf, value}
+use Rattle.format.specs.Tree.{leaf}
+use Rattle.format.specs.Value.{right, integerOwn, integerKind, leafOwn, value}
 use Rattle.format.proofs.Steps as clauses
-use Rattle.format.proofs.Values.{LeafWords}
 use Rattle.rules.specs.declared.kind.Kind.{Kind}
-use Rattle.rules.specs.declared.kind.Kind.the-variants.{Constant, Small, Signed, Unsigned, Float, Text as Spelt, Holds, Binary, Char, Reference, Declaration, Whole, Damaged, Other}
+use Rattle.rules.specs.declared.kind.Kind.the-variants.{Constant, Small, Signed, Unsigned, Float, Text as Spelt, Holds, Binary, Char, Reference, Declaration, Whole, Damaged, Key, Unknown}
 use Rattle.rules.specs.declared.shape.Shape.the-variants as shape
 use Rattle.rules.specs.Shape.{blank, inside, oneOf, span, spelt, fits, shapeFor}
 use Rattle.rules.proofs.Says.{Names, blank-first, blank-second, blank-third, blank-fourth}
 use Rattle.rules.proofs.Judged.{span-within}
-use Rattle.encode.specs.Encode.{placeIn, floatMarker, headFor, hasBytes, payload}
+use Rattle.encode.specs.Encode.{placeIn, floatMarker, headFor, hasBytes}
+use Rattle.encode.proofs.Worded.{Fit}
 use Rattle.encode.proofs.Fronts.{Stand, no-alone}
 use Rattle.encode.proofs.Leaves.{constant-back, text-back, binary-back, float-back, char-back, small-back, signed-back, unsigned-back, body-there}
 
@@ -101,109 +101,111 @@ float-marker : (n : ℕ) → oneOf floatSizes n ≡ true → (3 ≤ floatMarker 
 unfolding floatMarker
 float-marker n e = by-size (λ m. (3 ≤ 3 + placeIn floatSizes m) × (3 + placeIn floatSizes m < 8) × (floatSize (3 + placeIn floatSizes m) ≡ m)) n e (lit≤ tt, lit≤ tt, refl) (lit≤ tt, lit≤ tt, refl) (lit≤ tt, lit≤ tt, refl) (lit≤ tt, lit≤ tt, refl) (lit≤ tt, lit≤ tt, refl)
 
-module _ (s s′ : List ℕ) (d k at stop : ℕ) (short : length s′ ≤ limit) (kind w0 w1 w2 w3 : ℕ) (w : LeafWords kind w0 w1 w2 w3) where
-  abbrev pub B : Kind → List ℕ
-  B K = headFor kind w0 w1 w2 w3 0 K ++ payload s w0 w1 K
+pub own-same : {a b c e a′ b′ c′ e′ m m′ : ℕ} → m ≡ m′ → a ≡ a′ → b ≡ b′ → c ≡ c′ → e ≡ e′ → own m a b c e ≡ own m′ a′ b′ c′ e′
+own-same p q r u v = λ i. own (p i) (q i) (r i) (u i) (v i)
 
-  abbrev pub T : Kind → Tree
-  T K = leaf kind (cond (hasBytes K) (at + length (headFor kind w0 w1 w2 w3 0 K)) w0) w1 w2 w3
+module _ (s s′ : List ℕ) (d k at stop : ℕ) (short : length s′ ≤ limit) (o : Own) (w : Fit o) where
+  abbrev pub B : Kind → List ℕ
+  B K = headFor o 0 K ++ cond (hasBytes K) (take (o .w1) (drop (o .w0) s)) []
+
+  -- what it reads back as
+  abbrev pub T : Kind → Own
+  T K = own (o .kind) (cond (hasBytes K) (at + length (headFor o 0 K)) (o .w0)) (o .w1) (o .w2) (o .w3)
 
   N : ℕ
-  N = valueOf (words w0 w1 w2 w3)
+  N = valueOf (words (o .w0) (o .w1) (o .w2) (o .w3))
 
-  bounded : Words (words w0 w1 w2 w3)
+  bounded : Words (words (o .w0) (o .w1) (o .w2) (o .w3))
   bounded = record { f0 = w .w0-fits; f1 = w .w1-fits; f2 = w .w2-fits; f3 = w .w3-fits }
 
   low : N < whole
   unfolding N
-  low = value-lt (words w0 w1 w2 w3) bounded
+  low = value-lt (words (o .w0) (o .w1) (o .w2) (o .w3)) bounded
 
-  by-head : (c : Content) (next m : ℕ) (t : Tree) → headAt s′ at stop ≡ stand.Leaf c next → leafOf s′ c ≡ t → next ≡ m → value (suc d) s′ k at stop ≡ right t m
-  by-head c next m t e q r = clauses.value-leaf d s′ k at stop (headAt s′ at stop) refl c next e ∙ ap₂ right q r
+  by-head : (c : Content) (next m : ℕ) (p : Own) → headAt s′ at stop ≡ stand.Leaf c next → leafOwn s′ c ≡ p → next ≡ m → value (suc d) s′ k at stop ≡ right (leaf p) m
+  by-head c next m p e q r = clauses.value-leaf d s′ k at stop (headAt s′ at stop) refl c next e ∙ ap₂ (λ (x : Own) (j : ℕ). right (leaf x) j) q r
 
-  words-leaf : {a b c e a′ b′ c′ e′ m m′ : ℕ} → m ≡ m′ → a ≡ a′ → b ≡ b′ → c ≡ c′ → e ≡ e′ → leaf m a b c e ≡ leaf m′ a′ b′ c′ e′
-  words-leaf p q r u v = cc
+  wide-own : (j : ℕ) (x : Wide) → x ≡ words (o .w0) (o .w1) (o .w2) (o .w3) → j ≡ o .kind → integerOwn j x ≡ o
+  wide-own j x e q = ap₂ integerOwn q e
 
-  wide-leaf : (j : ℕ) (x : Wide) → x ≡ words w0 w1 w2 w3 → j ≡ kind → leaf j (x .w0) (x .w1) (x .w2) (x .w3) ≡ leaf kind w0 w1 w2 w3
-  wide-leaf j x e q = ap₂ (λ (i : ℕ) (y : Wide). leaf i (y .w0) (y .w1) (y .w2) (y .w3)) q e
-
-  N-words : wideOf N ≡ words w0 w1 w2 w3
+  N-words : wideOf N ≡ words (o .w0) (o .w1) (o .w2) (o .w3)
   unfolding N
-  N-words = wide-value (words w0 w1 w2 w3) bounded
+  N-words = wide-value (words (o .w0) (o .w1) (o .w2) (o .w3)) bounded
 
   long-nil : (xs : List ℕ) → length (xs ++ []) ≡ length xs
   long-nil xs = ap length (append-nil xs)
 
-  constant-leaf : (1 ≤ kind) × (kind ≤ 3) → blank w0 w1 w2 w3 ≡ true → Stand s′ at stop ((kind - 1) ∷ []) → value (suc d) s′ k at stop ≡ right (leaf kind w0 w1 w2 w3) (at + 1)
-  unfolding leafOf
+  constant-leaf : (1 ≤ (o .kind)) × ((o .kind) ≤ 3) → blank (o .w0) (o .w1) (o .w2) (o .w3) ≡ true → Stand s′ at stop (((o .kind) - 1) ∷ []) → value (suc d) s′ k at stop ≡ right (leaf o) (at + 1)
+  unfolding leafOwn
   constant-leaf m f h =
-      by-head (holds.Constant kind) (at + 1) (at + 1) (leaf kind w0 w1 w2 w3) (constant-back s′ at stop kind (m .0) (m .1) h)
-      (words-leaf refl (sym (blank-first w0 w1 w2 w3 f)) (sym (blank-second w0 w1 w2 w3 f)) (sym (blank-third w0 w1 w2 w3 f)) (sym (blank-fourth w0 w1 w2 w3 f))) refl
+      by-head (holds.Constant (o .kind)) (at + 1) (at + 1) o (constant-back s′ at stop (o .kind) (m .0) (m .1) h)
+      (own-same refl (sym (blank-first (o .w0) (o .w1) (o .w2) (o .w3) f)) (sym (blank-second (o .w0) (o .w1) (o .w2) (o .w3) f)) (sym (blank-third (o .w0) (o .w1) (o .w2) (o .w3) f)) (sym (blank-fourth (o .w0) (o .w1) (o .w2) (o .w3) f))) refl
 
-  small-leaf : kind ≡ kindSmall → hasNumber (integerSigned .direct) N ≡ true → Stand s′ at stop (form integerSigned N) → value (suc d) s′ k at stop ≡ right (leaf kind w0 w1 w2 w3) (at + length (form integerSigned N))
-  unfolding leafOf
+  small-leaf : (o .kind) ≡ kindSmall → hasNumber (integerSigned .direct) N ≡ true → Stand s′ at stop (form integerSigned N) → value (suc d) s′ k at stop ≡ right (leaf o) (at + length (form integerSigned N))
+  unfolding leafOwn
   small-leaf m f h =
       let b : ℕ = byteOf (integerSigned .direct) N in
       let q : form integerSigned N ≡ b ∷ [] = no-alone integerSigned (sound-integers .signed) N refl ∙ direct-form integerSigned (sound-integers .signed) N f in
-      by-head (holds.Small b) (at + 1) (at + length (form integerSigned N)) (leaf kind w0 w1 w2 w3) (small-back s′ at stop N low f h)
-      (wide-leaf kindSmall (wideOf (numberOf (integerSigned .direct) b)) (ap wideOf (byte-number (integerSigned .direct) (sound-integers .signed .direct-run) N low f) ∙ N-words) (sym m))
+      by-head (holds.Small b) (at + 1) (at + length (form integerSigned N)) o (small-back s′ at stop N low f h)
+      (wide-own kindSmall (wideOf (numberOf (integerSigned .direct) b)) (ap wideOf (byte-number (integerSigned .direct) (sound-integers .signed .direct-run) N low f) ∙ N-words) (sym m))
       (ap (λ (l : List ℕ). at + length l) (sym q))
 
-  signed-leaf : kind ≡ kindSigned → hasNumber (integerSigned .direct) N ≡ false → Stand s′ at stop (form integerSigned N) → value (suc d) s′ k at stop ≡ right (leaf kind w0 w1 w2 w3) (at + length (form integerSigned N))
-  unfolding leafOf
+  signed-leaf : (o .kind) ≡ kindSigned → hasNumber (integerSigned .direct) N ≡ false → Stand s′ at stop (form integerSigned N) → value (suc d) s′ k at stop ≡ right (leaf o) (at + length (form integerSigned N))
+  unfolding leafOwn
   signed-leaf m f h =
       let z : ℕ = sizeAt (rank true N) in
       let q : form integerSigned N ≡ (0x10 + rank true N) ∷ bytesOf z N = no-alone integerSigned (sound-integers .signed) N refl ∙ body-form integerSigned (sound-integers .signed) N f in
       let v = body-there s′ at stop N low true (0x10 + rank true N) (subst (Stand s′ at stop) q h) in
-      by-head (holds.Integer true (at + 1) z) (at + 1 + z) (at + length (form integerSigned N)) (leaf kind w0 w1 w2 w3) (signed-back s′ at stop N low f h)
-      (ap (integerOf true) v ∙ wide-leaf (integerKind true N) (wideOf N) N-words (ap (λ (b : Bool). cond b kindSmall kindSigned) f ∙ sym m))
+      by-head (holds.Integer true (at + 1) z) (at + 1 + z) (at + length (form integerSigned N)) o (signed-back s′ at stop N low f h)
+      (ap (λ (n : ℕ). integerOwn (integerKind true n) (wideOf n)) v ∙ wide-own (integerKind true N) (wideOf N) N-words (ap (λ (b : Bool). cond b kindSmall kindSigned) f ∙ sym m))
       (omega (arith, ap length q, length-bytesOf z N))
 
-  unsigned-leaf : kind ≡ kindUnsigned → hasNumber (integerUnsigned .direct) N ≡ false → Stand s′ at stop (form integerUnsigned N) → value (suc d) s′ k at stop ≡ right (leaf kind w0 w1 w2 w3) (at + length (form integerUnsigned N))
-  unfolding leafOf
+  unsigned-leaf : (o .kind) ≡ kindUnsigned → hasNumber (integerUnsigned .direct) N ≡ false → Stand s′ at stop (form integerUnsigned N) → value (suc d) s′ k at stop ≡ right (leaf o) (at + length (form integerUnsigned N))
+  unfolding leafOwn
   unsigned-leaf m f h =
       let z : ℕ = sizeAt (rank false N) in
       let q : form integerUnsigned N ≡ (0x18 + rank false N) ∷ bytesOf z N = no-alone integerUnsigned (sound-integers .unsigned) N refl ∙ body-form integerUnsigned (sound-integers .unsigned) N f in
       let v = body-there s′ at stop N low false (0x18 + rank false N) (subst (Stand s′ at stop) q h) in
-      by-head (holds.Integer false (at + 1) z) (at + 1 + z) (at + length (form integerUnsigned N)) (leaf kind w0 w1 w2 w3) (unsigned-back s′ at stop N low f h)
-      (ap (integerOf false) v ∙ wide-leaf (integerKind false N) (wideOf N) N-words (ap (λ (b : Bool). cond b kindSmall kindUnsigned) f ∙ sym m))
+      by-head (holds.Integer false (at + 1) z) (at + 1 + z) (at + length (form integerUnsigned N)) o (unsigned-back s′ at stop N low f h)
+      (ap (λ (n : ℕ). integerOwn (integerKind false n) (wideOf n)) v ∙ wide-own (integerKind false N) (wideOf N) N-words (ap (λ (b : Bool). cond b kindSmall kindUnsigned) f ∙ sym m))
       (omega (arith, ap length q, length-bytesOf z N))
 
   P : List ℕ
-  P = take w1 (drop w0 s)
+  P = take (o .w1) (drop (o .w0) s)
 
-  pub leaf-back : (K : Kind) → Names K kind → fits s w0 w1 w2 w3 K ≡ true → shapeFor K ≡ shape.Leaf → Stand s′ at stop (B K) → value (suc d) s′ k at stop ≡ right (T K) (at + length (B K))
-  unfolding fits headFor leafOf N
+  pub leaf-back : (K : Kind) → Names K (o .kind) → fits s o K ≡ true → shapeFor K ≡ shape.Leaf → Stand s′ at stop (B K) → value (suc d) s′ k at stop ≡ right (leaf (T K)) (at + length (B K))
+  unfolding fits headFor leafOwn N
   leaf-back Constant m f e h = constant-leaf m f h
-  leaf-back Small m f e h = small-leaf m f (subst (Stand s′ at stop) (append-nil (form integerSigned N)) h) ∙ ap (λ (x : ℕ). right (leaf kind w0 w1 w2 w3) (at + x)) (sym (long-nil (form integerSigned N)))
-  leaf-back Signed m f e h = signed-leaf m (not-false _ f) (subst (Stand s′ at stop) (append-nil (form integerSigned N)) h) ∙ ap (λ (x : ℕ). right (leaf kind w0 w1 w2 w3) (at + x)) (sym (long-nil (form integerSigned N)))
-  leaf-back Unsigned m f e h = unsigned-leaf m (not-false _ f) (subst (Stand s′ at stop) (append-nil (form integerUnsigned N)) h) ∙ ap (λ (x : ℕ). right (leaf kind w0 w1 w2 w3) (at + x)) (sym (long-nil (form integerUnsigned N)))
+  leaf-back Small m f e h = small-leaf m f (subst (Stand s′ at stop) (append-nil (form integerSigned N)) h) ∙ ap (λ (x : ℕ). right (leaf o) (at + x)) (sym (long-nil (form integerSigned N)))
+  leaf-back Signed m f e h = signed-leaf m (not-false _ f) (subst (Stand s′ at stop) (append-nil (form integerSigned N)) h) ∙ ap (λ (x : ℕ). right (leaf o) (at + x)) (sym (long-nil (form integerSigned N)))
+  leaf-back Unsigned m f e h = unsigned-leaf m (not-false _ f) (subst (Stand s′ at stop) (append-nil (form integerUnsigned N)) h) ∙ ap (λ (x : ℕ). right (leaf o) (at + x)) (sym (long-nil (form integerUnsigned N)))
   leaf-back Float m f e h =
-      let b : span s w0 w1 w2 w3 ≡ true = and-first (span s w0 w1 w2 w3) (oneOf floatSizes w1) f in
-      let z = span-zeros s w0 w1 w2 w3 b in
-      let l = part-long s w0 w1 (span-within s w0 w1 w2 w3 b) in
-      let q = float-marker w1 (and-second (span s w0 w1 w2 w3) (oneOf floatSizes w1) f) in
-      by-head (holds.Span kindFloat (at + 1) w1) (at + 1 + w1) _ _ (float-back s′ at stop (take w1 (drop w0 s)) w1 l short (floatMarker w1) (q .0) (q .1) (q .2) h)
-      (words-leaf (sym m) refl refl (sym (z .0)) (sym (z .1))) (omega (arith, l))
+      let b : span s (o .w0) (o .w1) (o .w2) (o .w3) ≡ true = and-first (span s (o .w0) (o .w1) (o .w2) (o .w3)) (oneOf floatSizes (o .w1)) f in
+      let z = span-zeros s (o .w0) (o .w1) (o .w2) (o .w3) b in
+      let l = part-long s (o .w0) (o .w1) (span-within s (o .w0) (o .w1) (o .w2) (o .w3) b) in
+      let q = float-marker (o .w1) (and-second (span s (o .w0) (o .w1) (o .w2) (o .w3)) (oneOf floatSizes (o .w1)) f) in
+      by-head (holds.Span kindFloat (at + 1) (o .w1)) (at + 1 + (o .w1)) _ _ (float-back s′ at stop (take (o .w1) (drop (o .w0) s)) (o .w1) l short (floatMarker (o .w1)) (q .0) (q .1) (q .2) h)
+      (own-same (sym m) refl refl (sym (z .0)) (sym (z .1))) (omega (arith, l))
   leaf-back Spelt m f e h =
-      let z = spelling s w0 w1 w2 w3 f in
-      by-head (holds.Span kindText (at + length (form textLength w1)) w1) (at + length (form textLength w1) + w1) _ _ (text-back s′ at stop (take w1 (drop w0 s)) w1 (z .long) short (z .said) h)
-      (words-leaf (sym m) refl refl (sym (z .no2)) (sym (z .no3))) (omega (arith, z .long, length-append (form textLength w1) (take w1 (drop w0 s))))
+      let z = spelling s (o .w0) (o .w1) (o .w2) (o .w3) f in
+      by-head (holds.Span kindText (at + length (form textLength (o .w1))) (o .w1)) (at + length (form textLength (o .w1)) + (o .w1)) _ _ (text-back s′ at stop (take (o .w1) (drop (o .w0) s)) (o .w1) (z .long) short (z .said) h)
+      (own-same (sym m) refl refl (sym (z .no2)) (sym (z .no3))) (omega (arith, z .long, length-append (form textLength (o .w1)) (take (o .w1) (drop (o .w0) s))))
   leaf-back (Holds x) m f e h = cc
   leaf-back Binary m f e h =
-      let z = span-zeros s w0 w1 w2 w3 f in
-      let l = part-long s w0 w1 (span-within s w0 w1 w2 w3 f) in
-      by-head (holds.Span kindBinary (at + length (form binaryLength w1)) w1) (at + length (form binaryLength w1) + w1) _ _ (binary-back s′ at stop (take w1 (drop w0 s)) w1 l short h)
-      (words-leaf (sym m) refl refl (sym (z .0)) (sym (z .1))) (omega (arith, l, length-append (form binaryLength w1) (take w1 (drop w0 s))))
+      let z = span-zeros s (o .w0) (o .w1) (o .w2) (o .w3) f in
+      let l = part-long s (o .w0) (o .w1) (span-within s (o .w0) (o .w1) (o .w2) (o .w3) f) in
+      by-head (holds.Span kindBinary (at + length (form binaryLength (o .w1))) (o .w1)) (at + length (form binaryLength (o .w1)) + (o .w1)) _ _ (binary-back s′ at stop (take (o .w1) (drop (o .w0) s)) (o .w1) l short h)
+      (own-same (sym m) refl refl (sym (z .0)) (sym (z .1))) (omega (arith, l, length-append (form binaryLength (o .w1)) (take (o .w1) (drop (o .w0) s))))
   leaf-back Char m f e h =
-      let b : blank 0 w1 w2 w3 ≡ true = and-first (blank 0 w1 w2 w3) (codepoint w0) f in
-      let c : codepoint w0 ≡ true = and-second (blank 0 w1 w2 w3) (codepoint w0) f in
-      let u : w0 ≤ 0x10FFFF = leb-true w0 0x10FFFF (and-first (leb w0 0x10FFFF) (not (leb 0xD800 w0 && leb w0 0xDFFF)) c) in
-      by-head (holds.Char w0) (at + 4) _ _ (char-back s′ at stop w0 c u (subst (Stand s′ at stop) (append-nil (0xc0 ∷ bytesOf 3 w0)) h))
-      (words-leaf (sym m) refl (sym (blank-second 0 w1 w2 w3 b)) (sym (blank-third 0 w1 w2 w3 b)) (sym (blank-fourth 0 w1 w2 w3 b)))
-      (ap (λ (x : ℕ). at + x) (sym (long-nil (0xc0 ∷ bytesOf 3 w0) ∙ ap suc (length-bytesOf 3 w0))))
+      let b : blank 0 (o .w1) (o .w2) (o .w3) ≡ true = and-first (blank 0 (o .w1) (o .w2) (o .w3)) (codepoint (o .w0)) f in
+      let c : codepoint (o .w0) ≡ true = and-second (blank 0 (o .w1) (o .w2) (o .w3)) (codepoint (o .w0)) f in
+      let u : (o .w0) ≤ 0x10FFFF = leb-true (o .w0) 0x10FFFF (and-first (leb (o .w0) 0x10FFFF) (not (leb 0xD800 (o .w0) && leb (o .w0) 0xDFFF)) c) in
+      by-head (holds.Char (o .w0)) (at + 4) _ _ (char-back s′ at stop (o .w0) c u (subst (Stand s′ at stop) (append-nil (0xc0 ∷ bytesOf 3 (o .w0))) h))
+      (own-same (sym m) refl (sym (blank-second 0 (o .w1) (o .w2) (o .w3) b)) (sym (blank-third 0 (o .w1) (o .w2) (o .w3) b)) (sym (blank-fourth 0 (o .w1) (o .w2) (o .w3) b)))
+      (ap (λ (x : ℕ). at + x) (sym (long-nil (0xc0 ∷ bytesOf 3 (o .w0)) ∙ ap suc (length-bytesOf 3 (o .w0)))))
   leaf-back Reference m f e h = cc
   leaf-back Declaration m f e h = cc
   leaf-back Whole m f e h = cc
   leaf-back Damaged m f e h = cc
-  leaf-back Other m f e h = cc
+  leaf-back Key m f e h = cc
+  leaf-back Unknown m f e h = cc

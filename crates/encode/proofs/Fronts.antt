@@ -16,12 +16,11 @@ use Rattle.wide.proofs.Families.{Sound, round-trip, marked-form}
 use Rattle.wide.proofs.Sound.{sound-variable, sound-headers}
 use Rattle.wide.proofs.Ranks.{bool-case}
 use Rattle.rows.specs.Table.{limit}
-use Rattle.rows.specs.Kinds.{kindText, kindKey}
 use Rattle.format.specs.declared.head.Count.{Count}
 use Rattle.format.specs.declared.head.Count.the-variants.{Is}
 use Rattle.format.specs.declared.head.Holder.the-variants.{Array, Record, Map}
 use Rattle.format.specs.declared.head.Head.{Head}
-use Rattle.format.specs.Head.{Marker, text, array, entries, map, binary, special, reference, markerOf, part, countOf, countAt, textHead, binaryHead, holderHead, referHead, declareHead, foreignHead, secondHead, stands, headAt, keyAt}
+use Rattle.format.specs.Head.{Marker, text, array, entries, map, binary, special, reference, markerOf, part, countOf, countAt, spelling, spellingOf, textHead, binaryHead, holderHead, referHead, declareHead, foreignHead, secondHead, stands, headAt, keyAt}
 use Rattle.format.proofs.Markers.{is-text, is-array, is-entries, is-map, is-reference}
 
 pub take-front : (xs ys : List ℕ) (m : ℕ) → length xs ≤ m → take m (xs ++ ys) ≡ xs ++ take (m - length xs) ys
@@ -123,9 +122,9 @@ no-alone F good n e = marked-form F good n (le-ltb (behind whole (F .alone .from
 -- ---- each family
 
 module _ (s : List ℕ) (at stop n : ℕ) (few : n ≤ limit) where
-  pub text-front : Stand s at stop (form textLength n) → headAt s at stop ≡ textHead kindText s at stop (Is n (at + length (form textLength n)))
+  pub text-front : Stand s at stop (form textLength n) → headAt s at stop ≡ textHead at (spelling s (at + length (form textLength n)) n stop)
   unfolding stands markerOf
-  text-front = family-head s at stop textLength (sound-headers .text) n few text (first-headed (run 0x80 32 1) 0x08 [] text n (lit≤ tt) (λ x a b. is-text x a b) refl) (textHead kindText s at stop) (λ b. refl)
+  text-front = family-head s at stop textLength (sound-headers .text) n few text (first-headed (run 0x80 32 1) 0x08 [] text n (lit≤ tt) (λ x a b. is-text x a b) refl) (λ c. textHead at (spellingOf s stop c)) (λ b. refl)
 
   pub binary-front : Stand s at stop (form binaryLength n) → headAt s at stop ≡ binaryHead at stop (Is n (at + length (form binaryLength n)))
   unfolding stands markerOf
@@ -147,9 +146,9 @@ module _ (s : List ℕ) (at stop n : ℕ) (few : n ≤ limit) where
   unfolding stands markerOf
   reference-front = family-head s at stop referenceNumber (sound-headers .reference) n few reference (first-headed (run 0xc1 62 0) 0xff [] reference n (lit≤ tt) (λ x a b. is-reference x a (omega arith)) refl) (referHead at) (λ b. refl)
 
-  pub key-front : Stand s at stop (form keyLength n) → keyAt s at stop ≡ textHead kindKey s at stop (Is n (at + length (form keyLength n)))
+  pub key-front : Stand s at stop (form keyLength n) → keyAt s at stop ≡ spelling s (at + length (form keyLength n)) n stop
   unfolding keyAt
-  key-front h = ap (textHead kindKey s at stop) (count-form s at stop keyLength (sound-variable false) n few h)
+  key-front h = ap (spellingOf s stop) (count-form s at stop keyLength (sound-variable false) n few h)
 
   -- `0d` and a second byte
   special-front : (F : Family) → Sound F → (c : ℕ) (bs : List ℕ) → form F n ≡ 0x0d ∷ c ∷ bs → (H : Count → Head) → secondHead s at stop c ≡ H (countAt F s at stop)

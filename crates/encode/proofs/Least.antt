@@ -20,7 +20,7 @@ use Rattle.wide.proofs.Numbers.{Bytes, bytes-take, bytes-drop, length-bytesOf}
 use Rattle.wide.proofs.Nearness.{behind-up, behind-zero}
 use Rattle.wide.proofs.Wides.{value-wide}
 use Rattle.wide.proofs.Sound.{sound-variable, sound-integers, sound-headers}
-use Rattle.rows.specs.Table.{limit}
+use Rattle.rows.specs.Table.{Own, limit}
 use Rattle.format.specs.declared.head.Count.{Count}
 use Rattle.format.specs.declared.head.Count.the-variants.{Is, Not}
 use Rattle.format.specs.declared.refusal.Refusal.the-variants as why
@@ -29,28 +29,30 @@ use native.Mathlib.Nat.{min-le-left}
 use Rattle.text.specs.declared.answer.Text.{Text}
 use Rattle.text.specs.declared.answer.Text.the-variants.{WellFormed, IllFormed}
 use Rattle.text.specs.Check.{textOf}
-use Rattle.rows.specs.Kinds.{kindSmall, kindSigned, kindUnsigned, kindFloat, kindText, kindBinary, kindChar, kindForeign, kindKey}
+use Rattle.rows.specs.Kinds.{kindSmall, kindSigned, kindUnsigned, kindFloat, kindText, kindBinary, kindKey, constantOwn, spanOwn, holderOwn, charOwn, declarationOwn, foreignOwn, damagedOwn}
 use Rattle.format.specs.declared.refusal.Refusal.{Refusal}
+use Rattle.format.specs.declared.head.Spelling.{Spelling}
+use Rattle.format.specs.declared.head.Spelling.the-variants.{At, No}
 use Rattle.format.specs.declared.head.Content.{Content}
 use Rattle.format.specs.declared.head.Content.the-variants as holds
 use Rattle.format.specs.declared.head.Holder.{Holder}
-use Rattle.format.specs.declared.head.Holder.the-variants.{Array, Record, Map}
 use Rattle.format.specs.declared.head.Head.{Head}
 use Rattle.format.specs.declared.head.Head.the-variants as stand
 use Rattle.format.specs.declared.head.Children.{Children}
-use Rattle.format.specs.declared.head.Children.the-variants.{Growing}
-use Rattle.format.specs.Head.{Marker, constant, float, text, array, entries, map, binary, special, nothing, signedBody, unsignedBody, small, char, reference, markerOf, bodied, spelled, textBody, codepoint, charBody, floatSize, withCount, textHead, declareHead, foreignHead, secondHead, stands, headAt, keyAt}
-use Rattle.format.specs.Tree.{Tree, leaf, hold, Trees, none, more}
-use Rattle.format.specs.Value.{Reading, right, wrong, Run, ran, broke, leafOf, kindOf, childCount, childrenOf, keyed, isKey, inForce, inTurn, child, ahead, follow, run, held, referred, closed, declaring, framed, framedRight, inForeign, step, value, document}
+use Rattle.format.specs.declared.head.Children.the-variants.{Entries}
+use Rattle.format.specs.Head.{Marker, constant, float, text, array, entries, map, binary, special, nothing, signedBody, unsignedBody, small, char, reference, markerOf, bodied, spelled, spellingOf, codepoint, charBody, floatSize, withCount, textHead, declareHead, foreignHead, secondHead, stands, headAt, keyAt}
+use Rattle.format.specs.Tree.{Tree, leaf, foreign, damaged, Trees}
+use Rattle.format.specs.Value.{Reading, right, wrong, Run, ran, broke, integerOwn, leafOwn, kindOf, childCount, childrenOf, keyed, isKey, inForce, inTurn, child, ahead, follow, run, held, referred, closed, declaring, ended, whole, framed, inForeign, step, value, document}
 use Rattle.rules.specs.declared.kind.Kind.{Kind}
-use Rattle.rules.specs.declared.kind.Kind.the-variants.{Constant, Small, Signed, Unsigned, Float, Text as Spelt, Binary, Char, Damaged, Other}
+use Rattle.rules.specs.declared.kind.Kind.the-variants.{Constant, Small, Signed, Unsigned, Float, Text as Spelt, Binary, Char, Damaged, Key}
 use Rattle.rules.specs.Shape.{named}
 use Rattle.rules.proofs.Read.{marker-has, small-words, small-both}
 use Rattle.wide.proofs.Runs.{number-has}
-use Rattle.encode.specs.Encode.{holderCount, headFor, hasBytes, payload, encode, encodes}
+use Rattle.encode.specs.Encode.{holderCount, headFor, headOf, hasBytes, payload, encode, encodes}
 use Rattle.format.proofs.Heads.{IntegerAt, Payload, floating, written, plain, ContentAt, Stood, head-stood}
 use Rattle.format.proofs.Values.{ReadAt, value-read, document-value, document-next}
 use Rattle.encode.proofs.Fronts.{no-alone, limit-whole}
+use Rattle.encode.proofs.Again.{reference-head, holder-head, declaration-head, foreign-head, damaged-named}
 use Rattle.format.specs.Refusal.{numberOf as refusalNumber}
 
 -- ---- a length, count or number
@@ -126,9 +128,10 @@ LeastHead at (stand.Refuse e place) = Unit {0}
 bodied-least : (at : ℕ) (c : Content) (place n stop : ℕ) → LeastContent at c → LeastHead at (bodied at c place n stop)
 bodied-least at c place n stop h = cond-case (LeastHead at) (leb n (stop - place)) (stand.Leaf c (place + n)) (stand.Refuse why.Short at) (λ _. h) (λ _. tt)
 
-spelled-least : (at : ℕ) (t : Text) (c : Content) (next : ℕ) → LeastContent at c → LeastHead at (spelled at t (stand.Leaf c next))
-spelled-least at WellFormed c next h = h
-spelled-least at (IllFormed k) c next h = tt
+-- the bytes of a text or of a key stand behind the form of its length
+abbrev LeastSpelling : Family → ℕ → Spelling → Type 0
+LeastSpelling F at (At place n) = at + length (form F n) ≤ place
+LeastSpelling F at (No e) = Unit {0}
 
 module _ (s : List ℕ) (b : Bytes s) (at stop : ℕ) where
   -- behind a number of a family
@@ -139,10 +142,22 @@ module _ (s : List ℕ) (b : Bytes s) (at stop : ℕ) where
       of (Is n next) e = f n next (count-least F good s b at stop n next e)
       of (Not e) q = tt
 
-  text-least : (n place : ℕ) → at + length (form textLength n) ≤ place → LeastHead at (textBody s at kindText place n stop)
-  text-least n place h =
-      cond-case (LeastHead at) (leb n (stop - place)) (spelled at (textOf (take n (drop place s))) (stand.Leaf (holds.Span kindText place n) (place + n))) (stand.Refuse why.Short at)
-      (λ _. spelled-least at (textOf (take n (drop place s))) (holds.Span kindText place n) (place + n) ((λ _. h), (λ e. absurd (omega (arith, e))))) (λ _. tt)
+  spelling-least : (F : Family) → Sound F → LeastSpelling F at (spellingOf s stop (countAt F s at stop))
+  spelling-least F good = of (countAt F s at stop) refl
+    where
+      told : (t : Text) (n place : ℕ) → at + length (form F n) ≤ place → LeastSpelling F at (spelled place n t)
+      told WellFormed n place h = h
+      told (IllFormed k) n place h = tt
+
+      of : (c : Count) → countAt F s at stop ≡ c → LeastSpelling F at (spellingOf s stop c)
+      of (Is n place) e =
+          cond-case (LeastSpelling F at) (leb n (stop - place)) (spelled place n (textOf (take n (drop place s)))) (No why.Short)
+          (λ _. told (textOf (take n (drop place s))) n place (count-least F good s b at stop n place e)) (λ _. tt)
+      of (Not y) e = tt
+
+  text-least : (x : Spelling) → LeastSpelling textLength at x → LeastHead at (textHead at x)
+  text-least (At place n) h = ((λ _. h), (λ e. absurd (omega (arith, e))))
+  text-least (No e) h = tt
 
   second-least : (c : ℕ) → LeastHead at (secondHead s at stop c)
   second-least c =
@@ -159,7 +174,7 @@ module _ (s : List ℕ) (b : Bytes s) (at stop : ℕ) where
   stands-least c signedBody = bodied-least at (holds.Integer true (at + 1) (sizeAt (c - 0x10))) (at + 1) (sizeAt (c - 0x10)) stop tt
   stands-least c unsignedBody = bodied-least at (holds.Integer false (at + 1) (sizeAt (c - 0x18))) (at + 1) (sizeAt (c - 0x18)) stop tt
   stands-least c float = bodied-least at (holds.Span kindFloat (at + 1) (floatSize c)) (at + 1) (floatSize c) stop ((λ e. absurd (omega (arith, e))), (λ e. absurd (omega (arith, e))))
-  stands-least c text = with-least textLength (sound-headers .text) _ (λ n place h. text-least n place h)
+  stands-least c text = text-least (spellingOf s stop (countAt textLength s at stop)) (spelling-least textLength (sound-headers .text))
   stands-least c binary = with-least binaryLength (sound-headers .binary) _ (λ n place h. bodied-least at (holds.Span kindBinary place n) place n stop ((λ e. absurd (omega (arith, e))), (λ _. h)))
   stands-least c char =
       cond-case (LeastHead at) (leb 3 (stop - (at + 1))) (charBody at (number (take 3 (drop (at + 1) s)))) (stand.Refuse why.Short at)
@@ -182,21 +197,18 @@ part-short : (s : List ℕ) (place n : ℕ) → length (take n (drop place s)) �
 part-short s place n = omega (arith, length-take n (drop place s), min-le-left n (length (drop place s)))
 
 -- a leaf with a payload of n bytes
-span-least : (s : List ℕ) (kind place n at : ℕ) (K : Kind) → named kind 0 ≡ K → hasBytes K ≡ true → at + length (headFor kind place n 0 0 0 K) ≤ place → at + length (encode s (leaf kind place n 0 0)) ≤ place + n
-unfolding encode
-span-least s kind place n at K e h l =
-    subst (λ (J : Kind). at + length (headFor kind place n 0 0 0 J ++ payload s place n J) ≤ place + n) (sym e)
-    (rw h (omega (arith, l, length-append (headFor kind place n 0 0 0 K) (take n (drop place s)), part-short s place n)))
+span-least : (s : List ℕ) (o : Own) (at : ℕ) (K : Kind) → named o ≡ K → hasBytes K ≡ true → at + length (headFor o 0 K) ≤ o .w0 → at + length (headOf o 0 ++ payload s o) ≤ o .w0 + o .w1
+span-least s o at K e h l =
+    subst (λ (J : Kind). at + length (headFor o 0 J ++ cond (hasBytes J) (take (o .w1) (drop (o .w0) s)) []) ≤ o .w0 + o .w1) (sym e)
+    (rw h (omega (arith, l, length-append (headFor o 0 K) (take (o .w1) (drop (o .w0) s)), part-short s (o .w0) (o .w1))))
 
 -- one without
-plain-least : (s : List ℕ) (kind w0 w1 w2 w3 at next : ℕ) (K : Kind) → named kind w2 ≡ K → hasBytes K ≡ false → at + length (headFor kind w0 w1 w2 w3 0 K) ≤ next
-    → at + length (encode s (leaf kind w0 w1 w2 w3)) ≤ next
-unfolding encode
-plain-least s kind w0 w1 w2 w3 at next K e h l =
-    subst (λ (J : Kind). at + length (headFor kind w0 w1 w2 w3 0 J ++ payload s w0 w1 J) ≤ next) (sym e)
-    (rw h (omega (arith, l, ap length (append-nil (headFor kind w0 w1 w2 w3 0 K)))))
+plain-least : (s : List ℕ) (o : Own) (at next : ℕ) (K : Kind) → named o ≡ K → hasBytes K ≡ false → at + length (headFor o 0 K) ≤ next → at + length (headOf o 0 ++ payload s o) ≤ next
+plain-least s o at next K e h l =
+    subst (λ (J : Kind). at + length (headFor o 0 J ++ cond (hasBytes J) (take (o .w1) (drop (o .w0) s)) []) ≤ next) (sym e)
+    (rw h (omega (arith, l, ap length (append-nil (headFor o 0 K)))))
 
-constant-named : (kind : ℕ) → 1 ≤ kind → kind ≤ 3 → named kind 0 ≡ Constant
+constant-named : (kind : ℕ) → 1 ≤ kind → kind ≤ 3 → named (constantOwn kind) ≡ Constant
 unfolding named
 constant-named zero l h = absurd (omega arith)
 constant-named (suc zero) l h = refl
@@ -226,44 +238,44 @@ body-read s b at next place n sign w u =
     let l : length (take n (drop place s)) ≡ n = length-take-le n (drop place s) (omega (arith, length-drop place s, w .ends)) in
     subst (λ (z : ℕ). Held sign z (bodyValue sign (take n (drop place s)))) l (body-held sign (take n (drop place s)) (bytes-take n (drop place s) (bytes-drop place s b)) (omega (arith, l, w .few)))
 
-integer-least : (s : List ℕ) → Bytes s → (at next place n : ℕ) (sign : Bool) → IntegerAt at next place n → next ≤ length s → at + length (encode s (leafOf s (holds.Integer sign place n))) ≤ next
-unfolding leafOf headFor named
+integer-least : (s : List ℕ) → Bytes s → (at next place n : ℕ) (sign : Bool) → IntegerAt at next place n → next ≤ length s → at + length (encode s (leaf (leafOwn s (holds.Integer sign place n)))) ≤ next
+unfolding leafOwn encode headFor named
 integer-least s b at next place n true w u =
     let M : ℕ = bodyValue true (take n (drop place s)) in
     let x : Wide = wideOf M in
     let k = body-read s b at next place n true w u in
     let q : valueOf (words (x .w0) (x .w1) (x .w2) (x .w3)) ≡ M = value-wide M (k .small) in
     bool-case (hasNumber (integerSigned .direct) M)
-    (λ e. rw e (plain-least s kindSmall (x .w0) (x .w1) (x .w2) (x .w3) at next Small refl refl (rw q (omega (arith, w .begins, w .ends, w .some, small-length M e)))))
-    (λ e. rw e (plain-least s kindSigned (x .w0) (x .w1) (x .w2) (x .w3) at next Signed refl refl (rw q (omega (arith, w .begins, w .ends, body-length true M n (w .rank) (k .small) e (w .sized) (w .ranked) (k .near))))))
+    (λ e. rw e (plain-least s (integerOwn kindSmall x) at next Small refl refl (rw q (omega (arith, w .begins, w .ends, w .some, small-length M e)))))
+    (λ e. rw e (plain-least s (integerOwn kindSigned x) at next Signed refl refl (rw q (omega (arith, w .begins, w .ends, body-length true M n (w .rank) (k .small) e (w .sized) (w .ranked) (k .near))))))
 integer-least s b at next place n false w u =
     let M : ℕ = bodyValue false (take n (drop place s)) in
     let x : Wide = wideOf M in
     let k = body-read s b at next place n false w u in
     let q : valueOf (words (x .w0) (x .w1) (x .w2) (x .w3)) ≡ M = value-wide M (k .small) in
     bool-case (hasNumber (integerUnsigned .direct) M)
-    (λ e. rw e (plain-least s kindSmall (x .w0) (x .w1) (x .w2) (x .w3) at next Small refl refl (rw q (omega (arith, w .begins, w .ends, w .some, small-length M (small-both M (k .small) e))))))
-    (λ e. rw e (plain-least s kindUnsigned (x .w0) (x .w1) (x .w2) (x .w3) at next Unsigned refl refl (rw q (omega (arith, w .begins, w .ends, body-length false M n (w .rank) (k .small) e (w .sized) (w .ranked) (k .near))))))
+    (λ e. rw e (plain-least s (integerOwn kindSmall x) at next Small refl refl (rw q (omega (arith, w .begins, w .ends, w .some, small-length M (small-both M (k .small) e))))))
+    (λ e. rw e (plain-least s (integerOwn kindUnsigned x) at next Unsigned refl refl (rw q (omega (arith, w .begins, w .ends, body-length false M n (w .rank) (k .small) e (w .sized) (w .ranked) (k .near))))))
 
-payload-least : (s : List ℕ) (at next kind place n : ℕ) → at < place → place + n ≡ next → LeastContent at (holds.Span kind place n) → Payload s kind place n → at + length (encode s (leaf kind place n 0 0)) ≤ next
-unfolding headFor named
-payload-least s at next kind place n h e l (floating x a b k z) = subst (λ (y : ℕ). at + length (encode s (leaf kind place n 0 0)) ≤ y) e (span-least s kind place n at Float (rw k) refl (omega arith))
-payload-least s at next kind place n h e l (written k z) = subst (λ (y : ℕ). at + length (encode s (leaf kind place n 0 0)) ≤ y) e (span-least s kind place n at Spelt (rw k) refl (l .0 k))
-payload-least s at next kind place n h e l (plain k) = subst (λ (y : ℕ). at + length (encode s (leaf kind place n 0 0)) ≤ y) e (span-least s kind place n at Binary (rw k) refl (l .1 k))
+payload-least : (s : List ℕ) (at next kind place n : ℕ) → at < place → place + n ≡ next → LeastContent at (holds.Span kind place n) → Payload s kind place n → at + length (encode s (leaf (spanOwn kind place n))) ≤ next
+unfolding encode headFor named
+payload-least s at next kind place n h e l (floating x a b k z) = subst (λ (y : ℕ). at + length (encode s (leaf (spanOwn kind place n))) ≤ y) e (span-least s (spanOwn kind place n) at Float (rw k) refl (omega arith))
+payload-least s at next kind place n h e l (written k z) = subst (λ (y : ℕ). at + length (encode s (leaf (spanOwn kind place n))) ≤ y) e (span-least s (spanOwn kind place n) at Spelt (rw k) refl (l .0 k))
+payload-least s at next kind place n h e l (plain k) = subst (λ (y : ℕ). at + length (encode s (leaf (spanOwn kind place n))) ≤ y) e (span-least s (spanOwn kind place n) at Binary (rw k) refl (l .1 k))
 
-content-least : (s : List ℕ) → Bytes s → (at next : ℕ) (c : Content) → ContentAt s at next c → LeastContent at c → next ≤ length s → at + length (encode s (leafOf s c)) ≤ next
-unfolding leafOf headFor named
+content-least : (s : List ℕ) → Bytes s → (at next : ℕ) (c : Content) → ContentAt s at next c → LeastContent at c → next ≤ length s → at + length (encode s (leaf (leafOwn s c))) ≤ next
+unfolding leafOwn encode headFor named
 content-least s b at next (holds.Constant kind) w l u =
-    plain-least s kind 0 0 0 0 at next Constant (constant-named kind (w .low) (w .high)) refl (omega (arith, w .ends))
+    plain-least s (constantOwn kind) at next Constant (constant-named kind (w .low) (w .high)) refl (omega (arith, w .ends))
 content-least s b at next (holds.Small marker) w l u =
     let n : ℕ = numberOf (integerSigned .direct) marker in
     let x : Wide = wideOf n in
     let e : hasNumber (integerSigned .direct) (valueOf (words (x .w0) (x .w1) (x .w2) (x .w3))) ≡ true =
-    small-words n (number-has (integerSigned .direct) (sound-integers .signed .direct-run) marker ∙ marker-has marker (w .low) (w .high)) in
-    plain-least s kindSmall (x .w0) (x .w1) (x .w2) (x .w3) at next Small refl refl (omega (arith, w .ends, small-length (valueOf (words (x .w0) (x .w1) (x .w2) (x .w3))) e))
+    small-words kindSmall n (number-has (integerSigned .direct) (sound-integers .signed .direct-run) marker ∙ marker-has marker (w .low) (w .high)) in
+    plain-least s (integerOwn kindSmall x) at next Small refl refl (omega (arith, w .ends, small-length (valueOf (words (x .w0) (x .w1) (x .w2) (x .w3))) e))
 content-least s b at next (holds.Integer sign place n) w l u = integer-least s b at next place n sign w u
 content-least s b at next (holds.Span kind place n) w l u = payload-least s at next kind place n (w .begins) (w .ends) l (w .payload)
-content-least s b at next (holds.Char c) w l u = plain-least s kindChar c 0 0 0 at next Char refl refl (omega (arith, w .ends, length-bytesOf 3 c))
+content-least s b at next (holds.Char c) w l u = plain-least s (charOwn c) at next Char refl refl (omega (arith, w .ends, length-bytesOf 3 c))
 
 -- ---- a value position
 
@@ -275,39 +287,23 @@ abbrev LeastRun : List ℕ → ℕ → Run → Type 0
 LeastRun s at (ran ts next) = at + length (encodes s ts) ≤ next
 LeastRun s at (broke e place) = Unit {0}
 
--- a key
-key-least : (s : List ℕ) → Bytes s → (at stop : ℕ) → LeastRead s at (keyed s (keyAt s at stop))
-unfolding keyAt leafOf headFor named
-key-least s b at stop = of (countAt keyLength s at stop) refl
-  where
-    spelled-key : (t : Text) (n place : ℕ) → at + length (form keyLength n) ≤ place → LeastRead s at (keyed s (spelled at t (stand.Leaf (holds.Span kindKey place n) (place + n))))
-    spelled-key WellFormed n place h = span-least s kindKey place n at Other refl refl h
-    spelled-key (IllFormed k) n place h = tt
+key-span : (s : List ℕ) (at place n : ℕ) → at + length (form keyLength n) ≤ place → at + length (encode s (leaf (spanOwn kindKey place n))) ≤ place + n
+unfolding encode headFor named
+key-span s at place n h = span-least s (spanOwn kindKey place n) at Key refl refl h
 
-    of : (c : Count) → countAt keyLength s at stop ≡ c → LeastRead s at (keyed s (textHead kindKey s at stop c))
-    of (Is n place) e =
-        cond-case (λ h. LeastRead s at (keyed s h)) (leb n (stop - place)) (spelled at (textOf (take n (drop place s))) (stand.Leaf (holds.Span kindKey place n) (place + n))) (stand.Refuse why.Short at)
-        (λ _. spelled-key (textOf (take n (drop place s))) n place (count-least keyLength (sound-variable false) s b at stop n place e)) (λ _. tt)
-    of (Not y) e = tt
+-- a key
+key-least : (s : List ℕ) → Bytes s → (at stop : ℕ) → LeastRead s at (keyed at (keyAt s at stop))
+unfolding keyAt
+key-least s b at stop = of (spellingOf s stop (countAt keyLength s at stop)) (spelling-least s b at stop keyLength (sound-variable false))
+  where
+    of : (x : Spelling) → LeastSpelling keyLength at x → LeastRead s at (keyed at x)
+    of (At place n) h = key-span s at place n h
+    of (No e) h = tt
 
 -- a damaged body
-damaged-named : (e : Refusal) → named kindForeign (refusalNumber e) ≡ Damaged
-unfolding named
-damaged-named why.Short = refl
-damaged-named why.Marker = refl
-damaged-named why.Huge = refl
-damaged-named why.Text = refl
-damaged-named why.Char = refl
-damaged-named why.NoEntry = refl
-damaged-named why.Empty = refl
-damaged-named why.Deep = refl
-damaged-named why.Extra = refl
-
-damaged-least : (s : List ℕ) (at place n : ℕ) (e : Refusal) → at + length (form foreignLength n) ≤ place → at + length (encode s (leaf kindForeign place n (refusalNumber e) 0)) ≤ place + n
+damaged-least : (s : List ℕ) (at place n : ℕ) (e : Refusal) → at + length (form foreignLength n) ≤ place → at + length (encode s (damaged (damagedOwn place n (refusalNumber e)))) ≤ place + n
 unfolding encode headFor
-damaged-least s at place n e l =
-    subst (λ (J : Kind). at + length (headFor kindForeign place n (refusalNumber e) 0 0 J ++ payload s place n J) ≤ place + n) (sym (damaged-named e))
-    (omega (arith, l, length-append (form foreignLength n) (take n (drop place s)), part-short s place n))
+damaged-least s at place n e l = span-least s (damagedOwn place n (refusalNumber e)) at Damaged (damaged-named place n e) refl l
 
 module _ (s : List ℕ) (b : Bytes s) (few : length s ≤ limit) (d : ℕ) (good : (k at stop : ℕ) → stop ≤ length s → LeastRead s at (value d s k at stop)) where
   turn-least : (c : Bool) (k at stop : ℕ) → stop ≤ length s → LeastRead s at (inTurn c (value d s) s k at stop)
@@ -332,36 +328,37 @@ module _ (s : List ℕ) (b : Bytes s) (few : length s ≤ limit) (d : ℕ) (good
   run-least c k i zero at stop l = omega arith
   run-least c k i (suc n) at stop l = follow-least at (child c (value d s) s k i at stop) (child-least c k i at stop l) _ (λ m. run-least c k (i + 1) n m stop l)
 
-  held-least : (h : Holder) (at n next : ℕ) (q : Run) → at + length (form (holderCount h) n) ≤ next → LeastRun s next q → LeastRead s at (held (kindOf h) n q)
-  unfolding encode headFor named
-  held-least Array at n next (ran ts m) l g = omega (arith, l, g, length-append (form arrayCount n) (encodes s ts))
-  held-least Record at n next (ran ts m) l g = omega (arith, l, g, length-append (form recordCount n) (encodes s ts))
-  held-least Map at n next (ran ts m) l g = omega (arith, l, g, length-append (form mapCount n) (encodes s ts))
+  held-least : (h : Holder) (at n next : ℕ) (q : Run) → at + length (form (holderCount h) n) ≤ next → LeastRun s next q → LeastRead s at (held (holderOwn (kindOf h) n) q)
+  unfolding encode
+  held-least h at n next (ran ts m) l g =
+      let L : ℕ = length (encodes s ts) in
+      omega (arith, l, g, length-append (headOf (holderOwn (kindOf h) n) L) (encodes s ts), ap length (holder-head h n L))
   held-least h at n next (broke e p) l g = tt
 
   closed-least : (at n next m : ℕ) (es : Trees) (x : Reading) → at + length (form declarationCount n) ≤ next → next + length (encodes s es) ≤ m → LeastRead s m x → LeastRead s at (closed n es x)
   unfolding encode
   closed-least at n next m es (right t z) l g h =
-      omega (arith, l, g, h, length-append (form declarationCount n) (encodes s es ++ encode s t), length-append (encodes s es) (encode s t))
+      let Y : List ℕ = encodes s es ++ encode s t in
+      omega (arith, l, g, h, length-append (headOf (declarationOwn n) (length Y)) Y, length-append (encodes s es) (encode s t), ap length (declaration-head n (length Y)))
   closed-least at n next m es (wrong e p) l g h = tt
 
   declaring-least : (at n next stop : ℕ) (q : Run) → at + length (form declarationCount n) ≤ next → LeastRun s next q → stop ≤ length s → LeastRead s at (declaring n q (value d s) stop)
   declaring-least at n next stop (ran es m) l g h = closed-least at n next m es (value d s n m stop) l g (good n m stop h)
   declaring-least at n next stop (broke e p) l g h = tt
 
-  whole-least : (at place n m : ℕ) (t : Tree) → at + length (form foreignLength n) ≤ place → n ≤ limit → place + length (encode s t) ≤ m → m ≤ place + n
-      → at + length (encode s (hold kindForeign 0 (more t none))) ≤ place + n
-  unfolding encode headFor named
-  whole-least at place n m t l u g r =
-      let E : List ℕ = encode s t ++ [] in
-      let e : length E ≡ length (encode s t) = ap length (append-nil (encode s t)) in
-      omega (arith, l, g, e, length-append (form foreignLength (length E)) E, foreign-mono (length E) n (omega arith) u)
+  body-least : (at place n m : ℕ) (t : Tree) → at + length (form foreignLength n) ≤ place → n ≤ limit → place + length (encode s t) ≤ m → m ≤ place + n
+      → at + length (encode s (foreign foreignOwn t)) ≤ place + n
+  unfolding encode
+  body-least at place n m t l u g r =
+      let L : ℕ = length (encode s t) in
+      omega (arith, l, g, length-append (headOf foreignOwn L) (encode s t), ap length (foreign-head L), foreign-mono L n (omega arith) u)
 
-  framed-least : (at place n : ℕ) → at + length (form foreignLength n) ≤ place → n ≤ limit → (x : Reading) → LeastRead s place x → ReadAt place (place + n) x → LeastRead s at (framed place n x)
+  framed-least : (at place n : ℕ) → at + length (form foreignLength n) ≤ place → n ≤ limit → (x : Reading) → LeastRead s place x → ReadAt place (place + n) x
+      → LeastRead s at (framed place n (whole (place + n) x))
   framed-least at place n l u (right t m) g r = go (eqb m (place + n))
     where
-      go : (c : Bool) → LeastRead s at (framedRight c t place n)
-      go true = whole-least at place n m t l u g (r .within)
+      go : (c : Bool) → LeastRead s at (framed place n (ended c t m))
+      go true = body-least at place n m t l u g (r .within)
       go false = damaged-least s at place n why.Extra l
   framed-least at place n l u (wrong e p) g r = damaged-least s at place n e l
 
@@ -372,9 +369,9 @@ module _ (s : List ℕ) (b : Bytes s) (few : length s ≤ limit) (d : ℕ) (good
   step-least k at stop l (stand.Refer n next) w g = go (ltb n k)
     where
       go : (c : Bool) → LeastRead s at (referred c n at next)
-      go true = g
+      go true = omega (arith, g, ap length (reference-head n 0 0))
       go false = tt
-  step-least k at stop l (stand.Declare n next) w g = declaring-least at n next stop (run (value d s) Growing s 0 0 n next stop) g (run-least Growing 0 0 n next stop l) l
+  step-least k at stop l (stand.Declare n next) w g = declaring-least at n next stop (run (value d s) Entries s 0 0 n next stop) g (run-least Entries 0 0 n next stop l) l
   step-least k at stop l (stand.Foreign place n) w g =
       framed-least at place n g (w .few) (value d s (inForeign k) place (place + n)) (good (inForeign k) place (place + n) (omega (arith, w .within))) (value-read d s (inForeign k) place (place + n))
   step-least k at stop l (stand.Refuse e place) w g = tt

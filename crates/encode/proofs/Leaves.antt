@@ -20,9 +20,10 @@ use Rattle.wide.proofs.Sound.{sound-integers}
 use Rattle.text.specs.declared.answer.Text.the-variants.{WellFormed}
 use Rattle.text.specs.Check.{textOf}
 use Rattle.rows.specs.Table.{limit}
-use Rattle.rows.specs.Kinds.{kindFloat, kindText, kindBinary, kindKey}
+use Rattle.rows.specs.Kinds.{kindFloat, kindText, kindBinary}
 use Rattle.format.specs.declared.head.Content.the-variants as holds
 use Rattle.format.specs.declared.head.Head.the-variants as stand
+use Rattle.format.specs.declared.head.Spelling.the-variants.{At}
 use Rattle.format.specs.Head.{Marker, constant, float, signedBody, unsignedBody, small, char, markerOf, codepoint, floatSize, integerHead, stands, headAt, keyAt}
 use Rattle.format.proofs.Markers.{is-constant, is-float, is-signed, is-unsigned, is-small}
 use Rattle.encode.proofs.Fronts.{Stand, stand-first, stand-second, stand-part, head-by, text-front, binary-front, key-front, no-alone, alone-byte}
@@ -59,7 +60,7 @@ module _ (s : List ℕ) (at stop : ℕ) where
         ∙ rw (le-leb n (stop - (at + length (form textLength n))) (payload-room (form textLength n) P n h long), payload-there (form textLength n) P n h long, e)
 
     pub key-back : textOf P ≡ WellFormed → (h : Stand s at stop (form keyLength n ++ P))
-        → keyAt s at stop ≡ stand.Leaf (holds.Span kindKey (at + length (form keyLength n)) n) (at + length (form keyLength n) + n)
+        → keyAt s at stop ≡ At (at + length (form keyLength n)) n
     key-back e h =
         key-front s at stop n (payload-few (form keyLength n) P n h long short) (stand-first s at stop (form keyLength n) P h)
         ∙ rw (le-leb n (stop - (at + length (form keyLength n))) (payload-room (form keyLength n) P n h long), payload-there (form keyLength n) P n h long, e)

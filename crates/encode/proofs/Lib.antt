@@ -7,3 +7,4 @@ pub mod Again
 pub mod Alike
 pub mod Least
 pub mod Shortest
+pub mod Worded

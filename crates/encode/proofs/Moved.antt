@@ -18,22 +18,24 @@ use borrow.Author.Tests.{leb-true, ltb-true, ltb-false, lt-ltb, le-ltb}
 use Rattle.text.specs.declared.answer.Text.{Text}
 use Rattle.text.specs.declared.answer.Text.the-variants.{WellFormed, IllFormed}
 use Rattle.text.specs.Check.{textOf}
-use Rattle.rows.specs.Table.{limit}
-use Rattle.rows.specs.Kinds.{kindFloat, kindText, kindBinary, kindKey}
+use Rattle.rows.specs.Table.{limit, Own}
+use Rattle.rows.specs.Kinds.{kindFloat, kindBinary, holderOwn}
 use Rattle.format.specs.declared.refusal.Refusal.{Refusal}
 use Rattle.format.specs.declared.refusal.Refusal.the-variants as why
 use Rattle.format.specs.declared.head.Count.{Count}
 use Rattle.format.specs.declared.head.Count.the-variants.{Is, Not}
+use Rattle.format.specs.declared.head.Spelling.{Spelling}
+use Rattle.format.specs.declared.head.Spelling.the-variants.{At, No}
 use Rattle.format.specs.declared.head.Content.{Content}
 use Rattle.format.specs.declared.head.Content.the-variants as holds
 use Rattle.format.specs.declared.head.Holder.the-variants.{Array, Record, Map}
 use Rattle.format.specs.declared.head.Head.{Head}
 use Rattle.format.specs.declared.head.Head.the-variants.{Leaf, Hold, Refer, Declare, Foreign, Refuse}
 use Rattle.format.specs.declared.head.Children.{Children}
-use Rattle.format.specs.declared.head.Children.the-variants.{Growing}
-use Rattle.format.specs.Head.{Marker, constant, float, text, array, entries, map, binary, special, nothing, signedBody, unsignedBody, small, char, reference, markerOf, countOf, countAt, bodied, spelled, textBody, codepoint, charBody, charHead, floatSize, withCount, declareHead, foreignHead, secondHead, specialHead, stands, headAt, keyAt}
+use Rattle.format.specs.declared.head.Children.the-variants.{Entries}
+use Rattle.format.specs.Head.{Marker, constant, float, text, array, entries, map, binary, special, nothing, signedBody, unsignedBody, small, char, reference, markerOf, countOf, countAt, bodied, spelled, spelling, spellingOf, textHead, codepoint, charBody, charHead, floatSize, withCount, declareHead, foreignHead, secondHead, specialHead, stands, headAt, keyAt}
 use Rattle.format.specs.Tree.{Tree, Trees}
-use Rattle.format.specs.Value.{Reading, right, wrong, Run, ran, broke, Reader, kindOf, childCount, childrenOf, keyed, isKey, inForce, inTurn, child, ahead, follow, run, held, referred, closed, declaring, framed, framedRight, inForeign, step, value}
+use Rattle.format.specs.Value.{Reading, right, wrong, Run, ran, broke, Reader, kindOf, childCount, childrenOf, keyed, isKey, inForce, inTurn, child, ahead, follow, run, held, referred, closed, declaring, whole, framed, inForeign, step, value}
 use Rattle.format.proofs.Heads.{Counted, counted, Stood, head-stood}
 use Rattle.format.proofs.Values.{ReadAt, RunAt, values-child, values-run}
 
@@ -130,17 +132,38 @@ module _ (s : List ℕ) (o n : ℕ) where
       go true = let e : o + j + m - o ≡ j + m - 0 = omega arith in ap (Leaf (holds.Constant 0)) e
       go false = refl
 
-  spelled-same : (at : ℕ) (t : Text) (a b : ℕ) (c c′ : Content) → a - o ≡ b - 0 → outline o (spelled (o + at) t (Leaf c a)) ≡ outline 0 (spelled at t (Leaf c′ b))
-  spelled-same at WellFormed a b c c′ e = ap (Leaf (holds.Constant 0)) e
-  spelled-same at (IllFormed k) a b c c′ e = refl
+  -- the bytes of a text or of a key, so far on
+  abbrev further : Spelling → Spelling
+  further (At place m) = At (o + place) m
+  further (No e) = No e
 
-  text-same : (kind at stop j m : ℕ) → j ≤ stop → stop ≤ n → outline o (textBody s (o + at) kind (o + j) m (o + stop)) ≡ outline 0 (textBody x at kind j m stop)
-  text-same kind at stop j m h l =
-      ap (λ (k : ℕ). outline o (cond (leb m k) (spelled (o + at) (textOf (take m (drop (o + j) s))) (Leaf (holds.Span kind (o + j) m) (o + j + m))) (Refuse why.Short (o + at)))) (stop-less stop j)
+  spelling-same : (stop j m : ℕ) → j ≤ stop → stop ≤ n → spelling s (o + j) m (o + stop) ≡ further (spelling x j m stop)
+  spelling-same stop j m h l =
+      ap (λ (k : ℕ). cond (leb m k) (spelled (o + j) m (textOf (take m (drop (o + j) s)))) (No why.Short)) (stop-less stop j)
       ∙ bool-case (leb m (stop - j))
-      (λ e. rw e (ap (λ (y : List ℕ). outline o (spelled (o + at) (textOf y) (Leaf (holds.Span kind (o + j) m) (o + j + m)))) (part-same m j (omega (arith, leb-true m (stop - j) e)))
-      ∙ spelled-same at (textOf (take m (drop j x))) (o + j + m) (j + m) (holds.Span kind (o + j) m) (holds.Span kind j m) (omega arith)))
+      (λ e. rw e (ap (λ (y : List ℕ). spelled (o + j) m (textOf y)) (part-same m j (omega (arith, leb-true m (stop - j) e))) ∙ go (textOf (take m (drop j x)))))
       (λ e. rw e refl)
+    where
+      go : (t : Text) → spelled (o + j) m t ≡ further (spelled j m t)
+      go WellFormed = refl
+      go (IllFormed k) = refl
+
+  spellings-same : (F : Family) (at stop : ℕ) → at ≤ stop → stop ≤ n → spellingOf s (o + stop) (countAt F s (o + at) (o + stop)) ≡ further (spellingOf x stop (countAt F x at stop))
+  spellings-same F at stop h l = go (countAt F s (o + at) (o + stop)) (countAt F x at stop) (counted F s (o + at) (o + stop)) (counted F x at stop) (count-same F at stop h l)
+    where
+      go : (c c′ : Count) → Counted (o + at) (o + stop) c → Counted at stop c′ → counting o c ≡ counting 0 c′ → spellingOf s (o + stop) c ≡ further (spellingOf x stop c′)
+      go (Is m next) (Is m′ next′) k k′ e =
+          let p : m ≡ m′ = cc in
+          let q : next - o ≡ next′ - 0 = cc in
+          let r : next ≡ o + next′ = omega (arith, k .after) in
+          ap₂ (λ (a b : ℕ). spelling s b a (o + stop)) p r ∙ spelling-same stop next′ m′ (k′ .within) l
+      go (Is m next) (Not y) k k′ e = absurd (let z : _≡_ {A = ℕ} 0 1 = cc in omega arith)
+      go (Not y) (Is m′ next′) k k′ e = absurd (let z : _≡_ {A = ℕ} 0 1 = cc in omega arith)
+      go (Not y) (Not y′) k k′ e = let p : y ≡ y′ = cc in ap No p
+
+  text-same : (at : ℕ) (y : Spelling) → outline o (textHead (o + at) (further y)) ≡ outline 0 (textHead at y)
+  text-same at (At place m) = let e : o + place + m - o ≡ place + m - 0 = omega arith in ap (Leaf (holds.Constant 0)) e
+  text-same at (No e) = refl
 
   char-same : (at stop : ℕ) → stop ≤ n → outline o (charHead s (o + at) (o + stop)) ≡ outline 0 (charHead x at stop)
   char-same at stop l =
@@ -203,7 +226,7 @@ module _ (s : List ℕ) (o n : ℕ) where
     stands-same b signedBody = body-at (sizeAt (b - 0x10)) (holds.Integer true (o + at + 1) (sizeAt (b - 0x10))) (holds.Integer true (at + 1) (sizeAt (b - 0x10)))
     stands-same b unsignedBody = body-at (sizeAt (b - 0x18)) (holds.Integer false (o + at + 1) (sizeAt (b - 0x18))) (holds.Integer false (at + 1) (sizeAt (b - 0x18)))
     stands-same b float = body-at (floatSize b) (holds.Span kindFloat (o + at + 1) (floatSize b)) (holds.Span kindFloat (at + 1) (floatSize b))
-    stands-same b text = counted-same textLength at stop (omega arith) l _ _ (λ m j k. text-same kindText at stop j m k l)
+    stands-same b text = ap (λ (y : Spelling). outline o (textHead (o + at) y)) (spellings-same textLength at stop (omega arith) l) ∙ text-same at (spellingOf x stop (countAt textLength x at stop))
     stands-same b binary = counted-same binaryLength at stop (omega arith) l _ _ (λ m j k. bodied-same at stop (holds.Span kindBinary (o + j) m) (holds.Span kindBinary j m) j m)
     stands-same b char = char-same at stop l
     stands-same b array = counted-same arrayCount at stop (omega arith) l _ _ (λ m j k. ap (Hold Array m) (less j))
@@ -223,32 +246,19 @@ module _ (s : List ℕ) (o n : ℕ) where
       (ap (λ (y : ℕ). outline o (stands s (o + at) (o + stop) y (markerOf y))) (byte-same at (omega arith)) ∙ stands-same at stop h l (getD x at 0) (markerOf (getD x at 0))))
       (λ b. rw (le-ltb (o + at) (o + stop) (omega (arith, ltb-false at stop b)), b) refl)
 
-  key-same : (at stop : ℕ) → at ≤ stop → stop ≤ n → outline o (keyAt s (o + at) (o + stop)) ≡ outline 0 (keyAt x at stop)
+  key-same : (at stop : ℕ) → at ≤ stop → stop ≤ n → keyAt s (o + at) (o + stop) ≡ further (keyAt x at stop)
   unfolding keyAt
-  key-same at stop h l = counted-same keyLength at stop h l _ _ (λ m j k. text-same kindKey at stop j m k l)
+  key-same at stop h l = spellings-same keyLength at stop h l
+
+  keyed-same : (at : ℕ) (y : Spelling) → told o (keyed (o + at) (further y)) ≡ told 0 (keyed at y)
+  keyed-same at (At place m) = let e : o + place + m - o ≡ place + m - 0 = omega arith in ap went e
+  keyed-same at (No e) = refl
 
 -- ---- what follows a head, by its outline
 
-keyO : Head → Outcome
-keyO (Leaf c j) = went j
-keyO (Hold h m j) = failed why.Marker
-keyO (Refer m j) = failed why.Marker
-keyO (Declare m j) = failed why.Marker
-keyO (Foreign p m) = failed why.Marker
-keyO (Refuse e p) = failed e
-
-keyed-told : (s : List ℕ) (o : ℕ) (h : Head) → told o (keyed s h) ≡ keyO (outline o h)
-unfolding keyO
-keyed-told s o (Leaf c next) = refl
-keyed-told s o (Hold h m next) = refl
-keyed-told s o (Refer m next) = refl
-keyed-told s o (Declare m next) = refl
-keyed-told s o (Foreign p m) = refl
-keyed-told s o (Refuse e p) = refl
-
-held-told : (o kind count : ℕ) (q : Run) → told o (held kind count q) ≡ toldRun o q
-held-told o kind count (ran ts next) = refl
-held-told o kind count (broke e p) = refl
+held-told : (o : ℕ) (w : Own) (q : Run) → told o (held w q) ≡ toldRun o q
+held-told o w (ran ts next) = refl
+held-told o w (broke e p) = refl
 
 ahead-told : (o : ℕ) (t : Tree) (q : Run) → toldRun o (ahead t q) ≡ toldRun o q
 ahead-told o t (ran ts next) = refl
@@ -259,11 +269,7 @@ closed-told o m es (right t next) = refl
 closed-told o m es (wrong e p) = refl
 
 framed-told : (o place m : ℕ) (y : Reading) → told o (framed place m y) ≡ went (place + m - o)
-framed-told o place m (right t next) = go (eqb next (place + m))
-  where
-    go : (b : Bool) → told o (framedRight b t place m) ≡ went (place + m - o)
-    go true = refl
-    go false = refl
+framed-told o place m (right t next) = refl
 framed-told o place m (wrong e p) = refl
 
 -- places behind o
@@ -308,7 +314,7 @@ abbrev stepO : ℕ → Reader → List ℕ → ℕ → ℕ → Head → Outcome
 stepO o R s k stop (Leaf c j) = went j
 stepO o R s k stop (Hold h m j) = toldRun o (run R (childrenOf h) s k 0 (childCount h m) (o + j) stop)
 stepO o R s k stop (Refer m j) = after (ltb m k) j
-stepO o R s k stop (Declare m j) = told o (declaring m (run R Growing s 0 0 m (o + j) stop) R stop)
+stepO o R s k stop (Declare m j) = told o (declaring m (run R Entries s 0 0 m (o + j) stop) R stop)
 stepO o R s k stop (Foreign p m) = went (p + m)
 stepO o R s k stop (Refuse e p) = failed e
 
@@ -317,7 +323,7 @@ unfolding step
 step-told o R s k at stop (Leaf c next) p = refl
 step-told o R s k at stop (Hold h m next) p =
     let e : next ≡ o + (next - o) = omega arith in
-    held-told o (kindOf h) m (run R (childrenOf h) s k 0 (childCount h m) next stop) ∙ ap (λ (j : ℕ). toldRun o (run R (childrenOf h) s k 0 (childCount h m) j stop)) e
+    held-told o (holderOwn (kindOf h) m) (run R (childrenOf h) s k 0 (childCount h m) next stop) ∙ ap (λ (j : ℕ). toldRun o (run R (childrenOf h) s k 0 (childCount h m) j stop)) e
 step-told o R s k at stop (Refer m next) p = go (ltb m k)
   where
     go : (b : Bool) → told o (referred b m at next) ≡ after b (next - o)
@@ -325,10 +331,10 @@ step-told o R s k at stop (Refer m next) p = go (ltb m k)
     go false = refl
 step-told o R s k at stop (Declare m next) p =
     let e : next ≡ o + (next - o) = omega arith in
-    ap (λ (j : ℕ). told o (declaring m (run R Growing s 0 0 m j stop) R stop)) e
+    ap (λ (j : ℕ). told o (declaring m (run R Entries s 0 0 m j stop) R stop)) e
 step-told o R s k at stop (Foreign place m) p =
     let e : place + m - o ≡ place - o + m = omega arith in
-    framed-told o place m (R (inForeign k) place (place + m)) ∙ ap went e
+    framed-told o place m (whole (place + m) (R (inForeign k) place (place + m))) ∙ ap went e
 step-told o R s k at stop (Refuse e place) p = refl
 
 -- ---- one level down
@@ -358,7 +364,7 @@ module _ (s : List ℕ) (o n d : ℕ) (same : (k at stop : ℕ) → stop ≤ n �
   y = take n (drop o s)
 
   turn-same : (b : Bool) (k at stop : ℕ) → at ≤ stop → stop ≤ n → told o (inTurn b (value d s) s k (o + at) (o + stop)) ≡ told 0 (inTurn b (value d y) y k at stop)
-  turn-same true k at stop h l = keyed-told s o (keyAt s (o + at) (o + stop)) ∙ ap keyO (key-same s o n at stop h l) ∙ sym (keyed-told y 0 (keyAt y at stop))
+  turn-same true k at stop h l = ap (λ (z : Spelling). told o (keyed (o + at) z)) (key-same s o n at stop h l) ∙ keyed-same s o n at (keyAt y at stop)
   turn-same false k at stop h l = same k at stop l
 
   child-same : (c : Children) (k i at stop : ℕ) → at ≤ stop → stop ≤ n → told o (child c (value d s) s k i (o + at) (o + stop)) ≡ told 0 (child c (value d y) y k i at stop)
@@ -379,9 +385,9 @@ module _ (s : List ℕ) (o n d : ℕ) (same : (k at stop : ℕ) → stop ≤ n �
       run-same (childrenOf h) k 0 (childCount h m) j stop w l ∙ ap (λ (i : ℕ). toldRun 0 (run (value d y) (childrenOf h) y k 0 (childCount h m) i stop)) (sym (zero-add j))
   stepO-same k stop l (Refer m j) w = refl
   stepO-same k stop l (Declare m j) w =
-      declaring-same o j stop m (run (value d s) Growing s 0 0 m (o + j) (o + stop)) (run (value d y) Growing y 0 0 m j stop)
-      (values-run d Growing s 0 0 m (o + j) (o + stop) (omega arith)) (values-run d Growing y 0 0 m j stop w) (run-same Growing 0 0 m j stop w l) (value d s) (value d y) (λ i. same m i stop l)
-      ∙ ap (λ (i : ℕ). told 0 (declaring m (run (value d y) Growing y 0 0 m i stop) (value d y) stop)) (sym (zero-add j))
+      declaring-same o j stop m (run (value d s) Entries s 0 0 m (o + j) (o + stop)) (run (value d y) Entries y 0 0 m j stop)
+      (values-run d Entries s 0 0 m (o + j) (o + stop) (omega arith)) (values-run d Entries y 0 0 m j stop w) (run-same Entries 0 0 m j stop w l) (value d s) (value d y) (λ i. same m i stop l)
+      ∙ ap (λ (i : ℕ). told 0 (declaring m (run (value d y) Entries y 0 0 m i stop) (value d y) stop)) (sym (zero-add j))
   stepO-same k stop l (Foreign p m) w = refl
   stepO-same k stop l (Refuse e p) w = refl
 

@@ -10,10 +10,11 @@ use Rattle.wide.specs.Family.{Family, form}
 use Rattle.wide.specs.Members.{integerSigned, integerUnsigned, textLength, binaryLength, arrayCount, recordCount, mapCount, keyLength, referenceNumber, declarationCount, foreignLength}
 use Rattle.format.specs.declared.head.Holder.{Holder}
 use Rattle.format.specs.declared.head.Holder.the-variants.{Array, Record, Map}
-use Rattle.format.specs.Tree.{Tree, leaf, refer, hold, declare, Trees, none, more}
+use Rattle.rows.specs.Table.{Own}
+use Rattle.format.specs.Tree.{Tree, leaf, refer, hold, declare, foreign, damaged, Trees, none, more}
 use Rattle.format.specs.Head.{floatSizes}
 use Rattle.rules.specs.declared.kind.Kind.{Kind}
-use Rattle.rules.specs.declared.kind.Kind.the-variants.{Constant, Small, Signed, Unsigned, Float, Text, Holds, Binary, Char, Reference, Declaration, Whole, Damaged, Other}
+use Rattle.rules.specs.declared.kind.Kind.the-variants.{Constant, Small, Signed, Unsigned, Float, Text, Holds, Binary, Char, Reference, Declaration, Whole, Damaged, Key, Unknown}
 use Rattle.rules.specs.Shape.{named}
 
 -- where a number stands in a list
@@ -31,23 +32,27 @@ holderCount Array = arrayCount
 holderCount Record = recordCount
 holderCount Map = mapCount
 
--- What stands before a row's payload, or before its children, which take `size` bytes: a row of kind k with the words w0..w3, and what that
--- kind names; `Other` is a key. "The length of a whole body is written before the body."
-unfoldable pub headFor : ℕ → ℕ → ℕ → ℕ → ℕ → ℕ → Kind → List ℕ
-headFor k w0 w1 w2 w3 size Constant = (k - 1) ∷ []
-headFor k w0 w1 w2 w3 size Small = form integerSigned (valueOf (words w0 w1 w2 w3))
-headFor k w0 w1 w2 w3 size Signed = form integerSigned (valueOf (words w0 w1 w2 w3))
-headFor k w0 w1 w2 w3 size Unsigned = form integerUnsigned (valueOf (words w0 w1 w2 w3))
-headFor k w0 w1 w2 w3 size Float = floatMarker w1 ∷ []
-headFor k w0 w1 w2 w3 size Text = form textLength w1
-headFor k w0 w1 w2 w3 size (Holds holder) = form (holderCount holder) w0
-headFor k w0 w1 w2 w3 size Binary = form binaryLength w1
-headFor k w0 w1 w2 w3 size Char = 0xc0 ∷ bytesOf 3 w0
-headFor k w0 w1 w2 w3 size Reference = form referenceNumber w0
-headFor k w0 w1 w2 w3 size Declaration = form declarationCount w0
-headFor k w0 w1 w2 w3 size Whole = form foreignLength size
-headFor k w0 w1 w2 w3 size Damaged = form foreignLength w1
-headFor k w0 w1 w2 w3 size Other = form keyLength w1
+-- What stands before a row's payload, or before its children, which take `size` bytes: a row that says o, and what its kind names. "The length
+-- of a whole body is written before the body."
+unfoldable pub headFor : Own → ℕ → Kind → List ℕ
+headFor o size Constant = (o .kind - 1) ∷ []
+headFor o size Small = form integerSigned (valueOf (words (o .w0) (o .w1) (o .w2) (o .w3)))
+headFor o size Signed = form integerSigned (valueOf (words (o .w0) (o .w1) (o .w2) (o .w3)))
+headFor o size Unsigned = form integerUnsigned (valueOf (words (o .w0) (o .w1) (o .w2) (o .w3)))
+headFor o size Float = floatMarker (o .w1) ∷ []
+headFor o size Text = form textLength (o .w1)
+headFor o size (Holds holder) = form (holderCount holder) (o .w0)
+headFor o size Binary = form binaryLength (o .w1)
+headFor o size Char = 0xc0 ∷ bytesOf 3 (o .w0)
+headFor o size Reference = form referenceNumber (o .w0)
+headFor o size Declaration = form declarationCount (o .w0)
+headFor o size Whole = form foreignLength size
+headFor o size Damaged = form foreignLength (o .w1)
+headFor o size Key = form keyLength (o .w1)
+headFor o size Unknown = 0x0e ∷ []  -- no table that passes the check has one
+
+abbrev pub headOf : Own → ℕ → List ℕ
+headOf o size = headFor o size (named o)
 
 -- "7 float, 8 text, 12 binary, 17 key | w0 place in the data, w1 size"; "a damaged body's bytes count as payload"
 abbrev pub hasBytes : Kind → Bool
@@ -64,19 +69,26 @@ hasBytes Reference = false
 hasBytes Declaration = false
 hasBytes Whole = false
 hasBytes Damaged = true
-hasBytes Other = true
+hasBytes Key = true
+hasBytes Unknown = false
 
--- the bytes of the data that a leaf has
-abbrev pub payload : List ℕ → ℕ → ℕ → Kind → List ℕ
-payload s w0 w1 kind = cond (hasBytes kind) (take w1 (drop w0 s)) []
+-- the bytes of the data that a row has
+abbrev pub payload : List ℕ → Own → List ℕ
+payload s o = cond (hasBytes (named o)) (take (o .w1) (drop (o .w0) s)) []
+
+-- the same row with its payload at `place`
+abbrev pub moved : Own → ℕ → Own
+moved o place = record { kind = o .kind; w0 = cond (hasBytes (named o)) place (o .w0); w1 = o .w1; w2 = o .w2; w3 = o .w3 }
 
 -- "It writes each value in the fewest bytes its kind and size of float allow, keeping declarations and foreign headers."
 unfoldable mutual
   pub encode : List ℕ → Tree → List ℕ
-  encode s (leaf kind w0 w1 w2 w3) = headFor kind w0 w1 w2 w3 0 (named kind w2) ++ payload s w0 w1 (named kind w2)
-  encode s (refer number) = form referenceNumber number
-  encode s (hold kind count ts) = headFor kind count 0 0 0 (length (encodes s ts)) (named kind 0) ++ encodes s ts
-  encode s (declare count es t) = form declarationCount count ++ (encodes s es ++ encode s t)
+  encode s (leaf o) = headOf o 0 ++ payload s o
+  encode s (refer o) = headOf o 0
+  encode s (hold o ts) = headOf o (length (encodes s ts)) ++ encodes s ts
+  encode s (declare o es t) = headOf o (length (encodes s es ++ encode s t)) ++ (encodes s es ++ encode s t)
+  encode s (foreign o t) = headOf o (length (encode s t)) ++ encode s t
+  encode s (damaged o) = headOf o 0 ++ payload s o
 
   pub encodes : List ℕ → Trees → List ℕ
   encodes s none = []
@@ -85,12 +97,14 @@ unfoldable mutual
 -- the tree with the places that its payloads have where its bytes stand from `at` on
 unfoldable mutual
   pub placed : List ℕ → Tree → ℕ → Tree
-  placed s (leaf kind w0 w1 w2 w3) at =
-      leaf kind (cond (hasBytes (named kind w2)) (at + length (headFor kind w0 w1 w2 w3 0 (named kind w2))) w0) w1 w2 w3
-  placed s (refer number) at = refer number
-  placed s (hold kind count ts) at = hold kind count (placeds s ts (at + length (headFor kind count 0 0 0 (length (encodes s ts)) (named kind 0))))
-  placed s (declare count es t) at =
-      declare count (placeds s es (at + length (form declarationCount count))) (placed s t (at + length (form declarationCount count) + length (encodes s es)))
+  placed s (leaf o) at = leaf (moved o (at + length (headOf o 0)))
+  placed s (refer o) at = refer o
+  placed s (hold o ts) at = hold o (placeds s ts (at + length (headOf o (length (encodes s ts)))))
+  placed s (declare o es t) at =
+      declare o (placeds s es (at + length (headOf o (length (encodes s es ++ encode s t)))))
+      (placed s t (at + length (headOf o (length (encodes s es ++ encode s t))) + length (encodes s es)))
+  placed s (foreign o t) at = foreign o (placed s t (at + length (headOf o (length (encode s t)))))
+  placed s (damaged o) at = damaged (moved o (at + length (headOf o 0)))
 
   pub placeds : List ℕ → Trees → ℕ → Trees
   placeds s none at = none

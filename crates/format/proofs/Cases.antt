@@ -12,7 +12,7 @@ use Rattle.rows.specs.Table.{wordsOf}
 use Rattle.format.specs.declared.answer.Answer.{Answer}
 use Rattle.format.specs.Tree.{size, sizes}
 use Rattle.format.specs.Head.{markerOf, countAt, stands, headAt, keyAt}
-use Rattle.format.specs.Value.{leafOf, child, run, step, value, document}
+use Rattle.format.specs.Value.{leafOwn, child, run, inForeign, step, value, document}
 use Rattle.format.specs.Layout.{entries, layout, layouts}
 use Rattle.format.specs.Answer.{depthLimit, answer, tableAfter}
 use Rattle.format.specs.Starred.{Case, starred, slips}
@@ -29,5 +29,5 @@ abbrev pub wanted : Case → Outcome
 wanted c = record { says = c .says; table = c .rows ++ replicate (length (c .table) - length (c .rows)) 0 }
 
 pub cases-hold : map outcome (starred ++ slips) ≡ map wanted (starred ++ slips)
-unfolding starred slips answer tableAfter document value step run child leafOf headAt keyAt stands countAt markerOf layout layouts entries size sizes zeroed wordsOf wideOf bodyValue behind unmarked marked coded sequence textFrom textOf whole
+unfolding starred slips answer tableAfter document value step run child leafOwn inForeign headAt keyAt stands countAt markerOf layout layouts entries size sizes zeroed wordsOf wideOf bodyValue behind unmarked marked coded sequence textFrom textOf whole
 cases-hold = refl

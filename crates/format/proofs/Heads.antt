@@ -1,6 +1,6 @@
 -- What stands at a position begins behind `at`, ends within the stop, and its numbers are within the paper's bounds. Assumes nothing: not
 -- that the numbers of the list are bytes, nor that the stop is within it.
-use mathlib.Core.Path.{_≡_, refl, sym, ap, subst, _∙_}
+use mathlib.Core.Path.{_≡_, refl, sym, subst, _∙_}
 use mathlib.Core.Bool.{Bool, true, false, cond, and-eq-true-iff}
 use mathlib.Core.List.{List, [], _∷_}
 use Prim.Native.Nat.{ℕ, zero, suc, _+_, _-_, _≤_, _<_}
@@ -18,18 +18,20 @@ use Rattle.text.specs.declared.answer.Text.{Text}
 use Rattle.text.specs.declared.answer.Text.the-variants.{WellFormed, IllFormed}
 use Rattle.text.specs.Check.{textOf}
 use Rattle.rows.specs.Table.{limit}
-use Rattle.rows.specs.Kinds.{kindFloat, kindText, kindBinary, kindKey}
+use Rattle.rows.specs.Kinds.{kindFloat, kindText, kindBinary}
 use Rattle.format.specs.declared.refusal.Refusal.{Refusal}
 use Rattle.format.specs.declared.refusal.Refusal.the-variants as why
 use Rattle.format.specs.declared.head.Count.{Count}
 use Rattle.format.specs.declared.head.Count.the-variants.{Is, Not}
+use Rattle.format.specs.declared.head.Spelling.{Spelling}
+use Rattle.format.specs.declared.head.Spelling.the-variants.{At, No}
 use Rattle.format.specs.declared.head.Content.{Content}
 use Rattle.format.specs.declared.head.Content.the-variants as holds
 use Rattle.format.specs.declared.head.Holder.{Holder}
 use Rattle.format.specs.declared.head.Holder.the-variants.{Array, Record, Map}
 use Rattle.format.specs.declared.head.Head.{Head}
 use Rattle.format.specs.declared.head.Head.the-variants.{Leaf, Hold, Refer, Declare, Foreign, Refuse}
-use Rattle.format.specs.Head.{Marker, constant, float, text, array, entries, map, binary, special, nothing, signedBody, unsignedBody, small, char, reference, markerOf, part, countOf, countAt, bodied, spelled, textBody, codepoint, charBody, charHead, floatSize, textHead, binaryHead, holderHead, referHead, declareHead, foreignHead, specialHead, stands, headAt, keyAt}
+use Rattle.format.specs.Head.{Marker, constant, float, text, array, entries, map, binary, special, nothing, signedBody, unsignedBody, small, char, reference, markerOf, part, countOf, countAt, bodied, spelled, spellingOf, codepoint, charBody, charHead, floatSize, textHead, binaryHead, holderHead, referHead, declareHead, foreignHead, specialHead, stands, headAt, keyAt}
 
 -- ---- a length, count or number
 
@@ -138,30 +140,35 @@ bodied-case : (P : Head → Type 0) (at : ℕ) (c : Content) (place size stop : 
     → (size ≤ stop - place → P (Leaf c (place + size))) → P (Refuse why.Short at) → P (bodied at c place size stop)
 bodied-case P at c place size stop f g = cond-case P (leb size (stop - place)) _ _ (λ p. f (leb-true size (stop - place) p)) (λ _. g)
 
-spelled-case : (P : Head → Type 0) (at : ℕ) (t : Text) (h : Head) → (t ≡ WellFormed → P h) → P (Refuse why.Text at) → P (spelled at t h)
-spelled-case P at WellFormed h f g = f refl
-spelled-case P at (IllFormed offset) h f g = g
+-- the bytes of a text or of a key, behind `at`
+pub record SpeltAt (s : List ℕ) (at stop place size : ℕ) : Type 0 where
+  pub begins : at < place
+  pub within : place + size ≤ stop
+  pub few : size ≤ limit
+  pub spelt : textOf (take size (drop place s)) ≡ WellFormed
 
-text-case : (P : Head → Type 0) (s : List ℕ) (at kind place size stop : ℕ)
-    → (size ≤ stop - place → textOf (take size (drop place s)) ≡ WellFormed → P (Leaf (holds.Span kind place size) (place + size)))
-    → ((e : Refusal) → P (Refuse e at)) → P (textBody s at kind place size stop)
-text-case P s at kind place size stop f g =
-    cond-case P (leb size (stop - place)) _ _
-    (λ p. spelled-case P at (textOf (take size (drop place s))) _ (λ w. f (leb-true size (stop - place) p) w) (g why.Text))
-    (λ _. g why.Short)
+abbrev pub Spelled : List ℕ → ℕ → ℕ → Spelling → Type 0
+Spelled s at stop (At place size) = SpeltAt s at stop place size
+Spelled s at stop (No e) = Unit {0}
+
+spelled-at : (s : List ℕ) (at stop : ℕ) (c : Count) → Counted at stop c → Spelled s at stop (spellingOf s stop c)
+spelled-at s at stop (Is n place) k =
+    cond-case (Spelled s at stop) (leb n (stop - place)) _ _ (λ p. go (textOf (take n (drop place s))) refl (leb-true n (stop - place) p)) (λ _. tt)
+  where
+    go : (t : Text) → textOf (take n (drop place s)) ≡ t → n ≤ stop - place → Spelled s at stop (spelled place n t)
+    go WellFormed e l = record { begins = k .after; within = omega arith; few = k .few; spelt = e }
+    go (IllFormed offset) e l = tt
+spelled-at s at stop (Not e) k = tt
 
 module _ (s : List ℕ) (at stop : ℕ) where
-  text-stood : (c : Count) → Counted at stop c → Stood s at stop (textHead kindText s at stop c)
-  text-stood (Is n place) k =
-      text-case (Stood s at stop) s at kindText place n stop
-      (λ l w.
+  text-stood : (x : Spelling) → Spelled s at stop x → Stood s at stop (textHead at x)
+  text-stood (At place n) k =
       record {
         after = omega arith;
-        within = omega arith;
-        content = record { begins = k .after; ends = refl; few = k .few; payload = written refl w };
-      })
-      (λ e. refl)
-  text-stood (Not e) k = refl
+        within = k .within;
+        content = record { begins = k .begins; ends = refl; few = k .few; payload = written refl (k .spelt) };
+      }
+  text-stood (No e) k = refl
 
   binary-stood : (c : Count) → Counted at stop c → Stood s at stop (binaryHead at stop c)
   binary-stood (Is n place) k =
@@ -308,7 +315,8 @@ module _ (s : List ℕ) (at stop : ℕ) where
   marker-stood b signedBody h k = integer-stood s at stop true (b - 0x10) (omega arith)
   marker-stood b unsignedBody h k = integer-stood s at stop false (b - 0x18) (omega arith)
   marker-stood b float h k = float-stood s at stop b h (k .0) (k .1)
-  marker-stood b text h k = text-stood s at stop (countAt textLength s at stop) (counted textLength s at stop)
+  marker-stood b text h k =
+      text-stood s at stop (spellingOf s stop (countAt textLength s at stop)) (spelled-at s at stop (countAt textLength s at stop) (counted textLength s at stop))
   marker-stood b binary h k = binary-stood s at stop (countAt binaryLength s at stop) (counted binaryLength s at stop)
   marker-stood b char h k = char-stood s at stop
   marker-stood b array h k = holder-stood s at stop Array (countAt arrayCount s at stop) (counted arrayCount s at stop)
@@ -327,55 +335,9 @@ module _ (s : List ℕ) (at stop : ℕ) where
 
 -- ---- a key
 
-pub record KeySpan (s : List ℕ) (at next kind place size : ℕ) : Type 0 where
-  pub named : kind ≡ kindKey
-  pub begins : at < place
-  pub ends : place + size ≡ next
-  pub few : size ≤ limit
-  pub spelt : textOf (take size (drop place s)) ≡ WellFormed
-
-abbrev pub KeyContent : List ℕ → ℕ → ℕ → Content → Type 0
-KeyContent s at next (holds.Constant kind) = ⊥
-KeyContent s at next (holds.Small marker) = ⊥
-KeyContent s at next (holds.Integer sign place size) = ⊥
-KeyContent s at next (holds.Span kind place size) = KeySpan s at next kind place size
-KeyContent s at next (holds.Char c) = ⊥
-
-pub record KeyAt (s : List ℕ) (at stop : ℕ) (c : Content) (next : ℕ) : Type 0 where
-  pub after : at < next
-  pub within : next ≤ stop
-  pub content : KeyContent s at next c
-
--- the content is a key
-pub record Named (c : Content) : Type 0 where
-  pub place : ℕ
-  pub size : ℕ
-  pub names : c ≡ holds.Span kindKey place size
-
--- nothing but a leaf or a refusal
-abbrev pub KeyStood : List ℕ → ℕ → ℕ → Head → Type 0
-KeyStood s at stop (Leaf c next) = KeyAt s at stop c next
-KeyStood s at stop (Hold h n next) = ⊥
-KeyStood s at stop (Refer n next) = ⊥
-KeyStood s at stop (Declare n next) = ⊥
-KeyStood s at stop (Foreign place size) = ⊥
-KeyStood s at stop (Refuse e place) = place ≡ at
-
-key-counted : (s : List ℕ) (at stop : ℕ) (c : Count) → Counted at stop c → KeyStood s at stop (textHead kindKey s at stop c)
-key-counted s at stop (Is n place) k =
-    text-case (KeyStood s at stop) s at kindKey place n stop
-    (λ l w.
-    record {
-      after = omega arith;
-      within = omega arith;
-      content = record { named = refl; begins = k .after; ends = refl; few = k .few; spelt = w };
-    })
-    (λ e. refl)
-key-counted s at stop (Not e) k = refl
-
-pub key-stood : (s : List ℕ) (at stop : ℕ) → KeyStood s at stop (keyAt s at stop)
+pub key-spelled : (s : List ℕ) (at stop : ℕ) → Spelled s at stop (keyAt s at stop)
 unfolding keyAt
-key-stood s at stop = key-counted s at stop (countAt keyLength s at stop) (counted keyLength s at stop)
+key-spelled s at stop = spelled-at s at stop (countAt keyLength s at stop) (counted keyLength s at stop)
 
 -- ---- one law for each part: c is the number at `at`
 
@@ -498,50 +460,13 @@ module _ (s : List ℕ) (at stop : ℕ) (h : Head) (head : h ≡ headAt s at sto
     pub foreign-within : place + size ≤ stop
     foreign-within = foreign-at .within
 
--- h is the key at `at`
-module _ (s : List ℕ) (at stop : ℕ) (h : Head) (head : h ≡ keyAt s at stop) where
-  key-as : (g : Head) → h ≡ g → KeyStood s at stop g
-  key-as g e = subst (KeyStood s at stop) (sym head ∙ e) (key-stood s at stop)
+-- x is the key at `at`
+module _ (s : List ℕ) (at stop : ℕ) (x : Spelling) (key : x ≡ keyAt s at stop) (place size : ℕ) (spelt : x ≡ At place size) where
+  pub key-at : SpeltAt s at stop place size
+  key-at = subst (Spelled s at stop) (sym key ∙ spelt) (key-spelled s at stop)
 
-  pub key-refuse : (e : Refusal) (place : ℕ) → h ≡ Refuse e place → place ≡ at
-  key-refuse e place q = key-as (Refuse e place) q
+  pub key-after : at < place
+  key-after = key-at .begins
 
-  pub key-no-hold : (x : Holder) (n next : ℕ) → h ≡ Hold x n next → ⊥
-  key-no-hold x n next e = key-as (Hold x n next) e
-
-  pub key-no-refer : (n next : ℕ) → h ≡ Refer n next → ⊥
-  key-no-refer n next e = key-as (Refer n next) e
-
-  pub key-no-declare : (n next : ℕ) → h ≡ Declare n next → ⊥
-  key-no-declare n next e = key-as (Declare n next) e
-
-  pub key-no-foreign : (place size : ℕ) → h ≡ Foreign place size → ⊥
-  key-no-foreign place size e = key-as (Foreign place size) e
-
-  module _ (c : Content) (next : ℕ) (leaf : h ≡ Leaf c next) where
-    pub key-at : KeyAt s at stop c next
-    key-at = key-as (Leaf c next) leaf
-
-    pub key-after : at < next
-    key-after = key-at .after
-
-    pub key-within : next ≤ stop
-    key-within = key-at .within
-
-    module _ (kind place size : ℕ) (content : c ≡ holds.Span kind place size) where
-      pub key-span : KeySpan s at next kind place size
-      key-span = subst (KeyContent s at next) content (key-at .content)
-
-      pub key-ends : place + size ≡ next
-      key-ends = key-span .ends
-
-    -- no other content
-    pub key-named : Named c
-    key-named = go c (key-at .content)
-      where
-        go : (d : Content) → KeyContent s at next d → Named d
-        go (holds.Constant kind) k = absurd k
-        go (holds.Small marker) k = absurd k
-        go (holds.Integer sign place size) k = absurd k
-        go (holds.Span kind place size) k = record { place = place; size = size; names = ap (λ (x : ℕ). holds.Span x place size) (k .named) }
-        go (holds.Char codepoint) k = absurd k
+  pub key-within : place + size ≤ stop
+  key-within = key-at .within

@@ -5,19 +5,18 @@ use Prim.Native.Nat.{ℕ, zero, suc, _+_, _-_, _*_, _≤_, _<_}
 use native.Mathlib.Nat.{add-zero}
 use native.Mathlib.Omega.{arith}
 use mathlib.Core.Bool.{Bool, true, false}
-use mathlib.Core.List.{List, [], _∷_, _++_, append-nil}
-use lib.ListN.{length, getD, length-append, List·getD-append}
-use lib.Seq.{sets, getD-at}
+use mathlib.Core.List.{List, [], _∷_, _++_, append-assoc}
+use lib.ListN.{length, getD, drop, length-append, List·getD-append}
+use lib.Seq.{sets, getD-at, length-take-le}
 use Rattle.lists.proofs.Sets.{sets-append}
 use Rattle.rows.specs.declared.row.Row.{Row}
-use Rattle.rows.specs.Table.{wordsPerRow, wordsOf, rowAt, lent}
-use Rattle.rows.specs.Kinds.{kindForeign, holderRow, declarationRow, foreignRow}
-use Rattle.rows.proofs.Rows.{row-sets-in, row-last}
+use Rattle.rows.specs.Table.{wordsPerRow, Own, rowOf, wordsOf, rowAt, lent}
+use Rattle.rows.proofs.Rows.{row-words, row-sets-in, row-last}
 use Rattle.format.specs.declared.head.Holder.{Holder}
 use Rattle.format.specs.declared.head.Holder.the-variants.{Array, Record, Map}
-use Rattle.format.specs.Tree.{Tree, leaf, refer, hold, declare, Trees, none, more, many, size, sizes}
-use Rattle.format.specs.Value.{childrenOf, inForce}
-use Rattle.format.specs.Layout.{isEntry, layout, layouts, entries, grown}
+use Rattle.format.specs.Tree.{Tree, leaf, refer, hold, declare, foreign, damaged, Trees, none, more, many, size, sizes}
+use Rattle.format.specs.Value.{childrenOf, inForce, inForeign}
+use Rattle.format.specs.Layout.{isEntry, layout, layouts, entries, grown, inBody, aimed}
 
 -- ---- a holder's children
 
@@ -33,19 +32,32 @@ around-force Array k i = refl
 around-force Record k i = refl
 around-force Map k i = refl
 
+-- ---- what is in force in a foreign body
+
+-- no more entries than around it; all that is argued of it rests on this
+pub in-foreign-few : (k : ℕ) → inForeign k ≤ k
+unfolding inForeign
+in-foreign-few k = omega arith
+
+-- their rows are so many
+pub length-body : (registry : List ℕ) → length (inBody registry) ≡ inForeign (length registry)
+length-body registry = length-take-le (inForeign (length registry)) registry (in-foreign-few (length registry))
+
 -- ---- how many words
 
 mutual
   unfolding layout size wordsOf
 
   pub length-layout : (t : Tree) (row : ℕ) (registry : List ℕ) → length (layout t row registry) ≡ wordsPerRow * size t
-  length-layout (leaf kind w0 w1 w2 w3) row registry = refl
-  length-layout (refer number) row registry = refl
-  length-layout (hold kind count ts) row registry = omega (arith, length-layouts ts false (row + 1) registry)
-  length-layout (declare count es t) row registry =
+  length-layout (leaf o) row registry = refl
+  length-layout (refer o) row registry = refl
+  length-layout (hold o ts) row registry = omega (arith, length-layouts ts false (row + 1) registry)
+  length-layout (declare o es t) row registry =
       let h = length-layouts es true (row + 1) [] in
       let k = length-layout t (row + 1 + sizes es) (entries es (row + 1) []) in
       simp length-append (omega arith)
+  length-layout (foreign o t) row registry = omega (arith, length-layout t (row + 1) (inBody registry))
+  length-layout (damaged o) row registry = refl
 
   pub length-layouts : (ts : Trees) (grows : Bool) (row : ℕ) (registry : List ℕ) → length (layouts ts grows row registry) ≡ wordsPerRow * sizes ts
   length-layouts none grows row registry = refl
@@ -54,22 +66,60 @@ mutual
       let k = length-layouts ts grows (row + size t) (grown grows registry row) in
       simp length-append (omega arith)
 
--- ---- the first row's end
+-- ---- a tree's own row, and the rest
+
+-- what a tree's own row says, where `registry` has the rows of the entries in force
+abbrev pub ownAt : Tree → List ℕ → Own
+ownAt (leaf o) registry = o
+ownAt (refer o) registry = aimed o (getD registry (o .w0) 0)
+ownAt (hold o ts) registry = o
+ownAt (declare o es t) registry = o
+ownAt (foreign o t) registry = o
+ownAt (damaged o) registry = o
+
+-- the row itself: it ends behind all the tree's rows
+abbrev pub topRow : Tree → ℕ → List ℕ → Row
+topRow t row registry = rowOf (ownAt t registry) (row + size t)
+
+-- the words of its children's rows
+abbrev pub below : Tree → ℕ → List ℕ → List ℕ
+below (leaf o) row registry = []
+below (refer o) row registry = []
+below (hold o ts) row registry = layouts ts false (row + 1) registry
+below (declare o es t) row registry = layouts es true (row + 1) [] ++ layout t (row + 1 + sizes es) (entries es (row + 1) [])
+below (foreign o t) row registry = layout t (row + 1) (inBody registry)
+below (damaged o) row registry = []
+
+pub layout-top : (t : Tree) (row : ℕ) (registry : List ℕ) → layout t row registry ≡ wordsOf (topRow t row registry) ++ below t row registry
+unfolding layout size wordsOf
+layout-top (leaf o) row registry = refl
+layout-top (refer o) row registry = refl
+layout-top (hold o ts) row registry = refl
+layout-top (declare o es t) row registry = refl
+layout-top (foreign o t) row registry = refl
+layout-top (damaged o) row registry = refl
+
+-- where a tree's words stand, there is its row
+pub top-at : (table : List ℕ) (t : Tree) (row : ℕ) (registry rest : List ℕ) → drop (wordsPerRow * row) table ≡ layout t row registry ++ rest
+    → rowAt table row ≡ topRow t row registry
+top-at table t row registry rest h =
+    row-words table row (topRow t row registry) (below t row registry ++ rest)
+    (h ∙ ap (λ (x : List ℕ). x ++ rest) (layout-top t row registry) ∙ append-assoc (wordsOf (topRow t row registry)) (below t row registry) rest)
 
 -- a tree has a row of its own
 pub size-pos : (t : Tree) → 0 < size t
 unfolding size
-size-pos (leaf kind w0 w1 w2 w3) = omega arith
-size-pos (refer number) = omega arith
-size-pos (hold kind count ts) = omega arith
-size-pos (declare count es t) = omega arith
+size-pos (leaf o) = omega arith
+size-pos (refer o) = omega arith
+size-pos (hold o ts) = omega arith
+size-pos (declare o es t) = omega arith
+size-pos (foreign o t) = omega arith
+size-pos (damaged o) = omega arith
 
 pub layout-end : (t : Tree) (row : ℕ) (registry : List ℕ) → rowAt (layout t row registry) 0 .end ≡ row + size t
-unfolding layout size wordsOf rowAt
-layout-end (leaf kind w0 w1 w2 w3) row registry = refl
-layout-end (refer number) row registry = refl
-layout-end (hold kind count ts) row registry = refl
-layout-end (declare count es t) row registry = refl
+layout-end t row registry =
+    ap (λ (r : Row). r .end)
+    (row-words (layout t row registry) 0 (topRow t row registry) (below t row registry) (layout-top t row registry))
 
 -- it is the row behind all its rows
 pub laid-end : (table : List ℕ) (t : Tree) (row : ℕ) (registry : List ℕ) → row + size t ≤ lent table
@@ -98,34 +148,38 @@ unfolding layout
 lay-more table t ts grows row registry =
     lay-two table row (size t) (layout t row registry) (layouts ts grows (row + size t) (grown grows registry row)) (length-layout t row registry)
 
--- a holder's row, when its children are there
-pub lay-hold : (table : List ℕ) (kind count : ℕ) (ts : Trees) (row : ℕ) (registry : List ℕ)
-    → sets (sets table (wordsPerRow * (row + 1)) (layouts ts false (row + 1) registry)) (wordsPerRow * row) (wordsOf (holderRow kind (row + (1 + sizes ts)) count))
-    ≡ sets table (wordsPerRow * row) (layout (hold kind count ts) row registry)
-unfolding layout
-lay-hold table kind count ts row registry =
-    row-last table row (holderRow kind (row + (1 + sizes ts)) count) (layouts ts false (row + 1) registry)
+-- a tree's own row, when its children's are there
+lay-top : (table : List ℕ) (t : Tree) (row : ℕ) (registry : List ℕ)
+    → sets (sets table (wordsPerRow * (row + 1)) (below t row registry)) (wordsPerRow * row) (wordsOf (topRow t row registry))
+    ≡ sets table (wordsPerRow * row) (layout t row registry)
+lay-top table t row registry =
+    row-last table row (topRow t row registry) (below t row registry) ∙ ap (sets table (wordsPerRow * row)) (sym (layout-top t row registry))
 
--- a right foreign document's row, when its value is there
-pub lay-foreign : (table : List ℕ) (t : Tree) (row : ℕ) (registry : List ℕ)
-    → sets (sets table (wordsPerRow * (row + 1)) (layout t (row + 1) registry)) (wordsPerRow * row) (wordsOf (foreignRow (row + (1 + size t))))
-    ≡ sets table (wordsPerRow * row) (layout (hold kindForeign 0 (more t none)) row registry)
-unfolding layout size
-lay-foreign table t row registry =
-    row-last table row (foreignRow (row + (1 + size t))) (layout t (row + 1) registry) ∙ rw (add-zero, append-nil)
+-- a holder's
+pub lay-hold : (table : List ℕ) (o : Own) (ts : Trees) (row : ℕ) (registry : List ℕ)
+    → sets (sets table (wordsPerRow * (row + 1)) (layouts ts false (row + 1) registry)) (wordsPerRow * row) (wordsOf (rowOf o (row + (1 + sizes ts))))
+    ≡ sets table (wordsPerRow * row) (layout (hold o ts) row registry)
+unfolding size
+lay-hold table o ts row registry = lay-top table (hold o ts) row registry
 
--- a declaration's row, when its entries and its value are there
-pub lay-declare : (table : List ℕ) (count : ℕ) (es : Trees) (t : Tree) (row : ℕ) (registry : List ℕ)
+-- a right foreign document's
+pub lay-foreign : (table : List ℕ) (o : Own) (t : Tree) (row : ℕ) (registry : List ℕ)
+    → sets (sets table (wordsPerRow * (row + 1)) (layout t (row + 1) (inBody registry))) (wordsPerRow * row) (wordsOf (rowOf o (row + (1 + size t))))
+    ≡ sets table (wordsPerRow * row) (layout (foreign o t) row registry)
+unfolding size
+lay-foreign table o t row registry = lay-top table (foreign o t) row registry
+
+-- a declaration's, when its entries and its value are there
+pub lay-declare : (table : List ℕ) (o : Own) (es : Trees) (t : Tree) (row : ℕ) (registry : List ℕ)
     → sets
     (sets (sets table (wordsPerRow * (row + 1)) (layouts es true (row + 1) [])) (wordsPerRow * (row + 1 + sizes es)) (layout t (row + 1 + sizes es) (entries es (row + 1) [])))
-    (wordsPerRow * row) (wordsOf (declarationRow (row + (1 + (sizes es + size t))) count))
-    ≡ sets table (wordsPerRow * row) (layout (declare count es t) row registry)
-unfolding layout
-lay-declare table count es t row registry =
+    (wordsPerRow * row) (wordsOf (rowOf o (row + (1 + (sizes es + size t)))))
+    ≡ sets table (wordsPerRow * row) (layout (declare o es t) row registry)
+unfolding size
+lay-declare table o es t row registry =
     let E : List ℕ = layouts es true (row + 1) [] in
     let T : List ℕ = layout t (row + 1 + sizes es) (entries es (row + 1) []) in
-    rw (lay-two table (row + 1) (sizes es) E T (length-layouts es true (row + 1) []))
-    (row-last table row (declarationRow (row + (1 + (sizes es + size t))) count) (E ++ T))
+    rw (lay-two table (row + 1) (sizes es) E T (length-layouts es true (row + 1) [])) (lay-top table (declare o es t) row registry)
 
 -- ---- the rows of entries
 

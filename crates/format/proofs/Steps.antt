@@ -5,21 +5,23 @@ use mathlib.Core.List.{List}
 use Prim.Native.Nat.{ℕ, suc, _+_, _-_, _≤_, _<_}
 use native.Mathlib.Omega.{arith}
 use lib.ListN.{length}
-use lib.Dec.{eqb, ltb}
+use lib.Dec.{ltb}
 use borrow.Author.Tests.{lt-ltb, le-ltb, eq-eqb, ne-eqb}
-use Rattle.rows.specs.Kinds.{kindForeign}
+use Rattle.rows.specs.Kinds.{kindKey, spanOwn, holderOwn, referenceOwn, declarationOwn, foreignOwn, damagedOwn}
 use Rattle.format.specs.declared.refusal.Refusal.{Refusal}
 use Rattle.format.specs.declared.refusal.Refusal.the-variants as why
+use Rattle.format.specs.declared.head.Spelling.{Spelling}
+use Rattle.format.specs.declared.head.Spelling.the-variants.{At, No}
 use Rattle.format.specs.declared.head.Content.{Content}
 use Rattle.format.specs.declared.head.Holder.{Holder}
 use Rattle.format.specs.declared.head.Head.{Head}
 use Rattle.format.specs.declared.head.Head.the-variants.{Leaf, Hold, Refer, Declare, Foreign, Refuse}
 use Rattle.format.specs.declared.head.Children.{Children}
-use Rattle.format.specs.declared.head.Children.the-variants.{Growing}
+use Rattle.format.specs.declared.head.Children.the-variants.{Entries}
 use Rattle.format.specs.Refusal.{numberOf as refusalNumber}
-use Rattle.format.specs.Tree.{Tree, leaf, refer, hold, declare, Trees, none, more}
+use Rattle.format.specs.Tree.{Tree, leaf, refer, hold, declare, foreign, damaged, Trees}
 use Rattle.format.specs.Head.{headAt, keyAt}
-use Rattle.format.specs.Value.{Reading, right, wrong, Run, ran, broke, Reader, leafOf, kindOf, childCount, childrenOf, keyed, inTurn, child, isKey, inForce, ahead, follow, run, held, referred, closed, declaring, framedRight, framed, inForeign, step, value, ended, whole, document}
+use Rattle.format.specs.Value.{Reading, right, wrong, Run, ran, broke, Reader, leafOwn, kindOf, childCount, childrenOf, keyed, inTurn, child, isKey, inForce, ahead, follow, run, held, referred, closed, declaring, framed, inForeign, step, value, ended, whole, document}
 
 -- ---- a value position
 
@@ -41,7 +43,7 @@ module _ (d : ℕ) (s : List ℕ) (k at stop : ℕ) (h : Head) (head : h ≡ hea
   unfolding step
   value-refuse e place q = by-head (Refuse e place) q
 
-  pub value-leaf : (c : Content) (next : ℕ) → h ≡ Leaf c next → value (suc d) s k at stop ≡ right (leafOf s c) next
+  pub value-leaf : (c : Content) (next : ℕ) → h ≡ Leaf c next → value (suc d) s k at stop ≡ right (leaf (leafOwn s c)) next
   unfolding step
   value-leaf c next q = by-head (Leaf c next) q
 
@@ -49,67 +51,75 @@ module _ (d : ℕ) (s : List ℕ) (k at stop : ℕ) (h : Head) (head : h ≡ hea
   unfolding step
   value-referred n next q = by-head (Refer n next) q
 
-  pub value-refer : (n next : ℕ) → h ≡ Refer n next → n < k → value (suc d) s k at stop ≡ right (refer n) next
+  pub value-refer : (n next : ℕ) → h ≡ Refer n next → n < k → value (suc d) s k at stop ≡ right (refer (referenceOwn n 0)) next
   value-refer n next q l = value-referred n next q ∙ ap (λ (b : Bool). referred b n at next) (lt-ltb n k l)
 
   pub value-no-entry : (n next : ℕ) → h ≡ Refer n next → k ≤ n → value (suc d) s k at stop ≡ wrong why.NoEntry at
   value-no-entry n next q l = value-referred n next q ∙ ap (λ (b : Bool). referred b n at next) (le-ltb n k l)
 
   module _ (x : Holder) (n next : ℕ) (holder : h ≡ Hold x n next) where
-    pub value-hold : value (suc d) s k at stop ≡ held (kindOf x) n (run (value d s) (childrenOf x) s k 0 (childCount x n) next stop)
+    pub value-hold : value (suc d) s k at stop ≡ held (holderOwn (kindOf x) n) (run (value d s) (childrenOf x) s k 0 (childCount x n) next stop)
     unfolding step
     value-hold = by-head (Hold x n next) holder
 
     pub value-held : (ts : Trees) (last : ℕ) → run (value d s) (childrenOf x) s k 0 (childCount x n) next stop ≡ ran ts last
-        → value (suc d) s k at stop ≡ right (hold (kindOf x) n ts) last
-    value-held ts last e = value-hold ∙ ap (held (kindOf x) n) e
+        → value (suc d) s k at stop ≡ right (hold (holderOwn (kindOf x) n) ts) last
+    value-held ts last e = value-hold ∙ ap (held (holderOwn (kindOf x) n)) e
 
   module _ (n next : ℕ) (declares : h ≡ Declare n next) where
-    pub value-declare : value (suc d) s k at stop ≡ declaring n (run (value d s) Growing s 0 0 n next stop) (value d s) stop
+    pub value-declare : value (suc d) s k at stop ≡ declaring n (run (value d s) Entries s 0 0 n next stop) (value d s) stop
     unfolding step
     value-declare = by-head (Declare n next) declares
 
-    pub value-entry-wrong : (e : Refusal) (place : ℕ) → run (value d s) Growing s 0 0 n next stop ≡ broke e place → value (suc d) s k at stop ≡ wrong e place
+    pub value-entry-wrong : (e : Refusal) (place : ℕ) → run (value d s) Entries s 0 0 n next stop ≡ broke e place → value (suc d) s k at stop ≡ wrong e place
     value-entry-wrong e place q = value-declare ∙ ap (λ (y : Run). declaring n y (value d s) stop) q
 
-    module _ (es : Trees) (last : ℕ) (entries : run (value d s) Growing s 0 0 n next stop ≡ ran es last) where
+    module _ (es : Trees) (last : ℕ) (entries : run (value d s) Entries s 0 0 n next stop ≡ ran es last) where
       behind-entries : value (suc d) s k at stop ≡ closed n es (value d s n last stop)
       behind-entries = value-declare ∙ ap (λ (y : Run). declaring n y (value d s) stop) entries
 
-      pub value-declared : (t : Tree) (end : ℕ) → value d s n last stop ≡ right t end → value (suc d) s k at stop ≡ right (declare n es t) end
+      pub value-declared : (t : Tree) (end : ℕ) → value d s n last stop ≡ right t end → value (suc d) s k at stop ≡ right (declare (declarationOwn n) es t) end
       value-declared t end e = behind-entries ∙ ap (closed n es) e
 
-  module _ (place n : ℕ) (foreign : h ≡ Foreign place n) where
-    pub value-foreign : value (suc d) s k at stop ≡ framed place n (value d s (inForeign k) place (place + n))
+  module _ (place n : ℕ) (frames : h ≡ Foreign place n) where
+    -- what its body reads as, a document of its own
+    abbrev body : Reading
+    body = whole (place + n) (value d s (inForeign k) place (place + n))
+
+    pub value-foreign : value (suc d) s k at stop ≡ framed place n body
     unfolding step
-    value-foreign = by-head (Foreign place n) foreign
+    value-foreign = by-head (Foreign place n) frames
 
-    module _ (t : Tree) (next : ℕ) (body : value d s (inForeign k) place (place + n) ≡ right t next) where
-      body-right : value (suc d) s k at stop ≡ framedRight (eqb next (place + n)) t place n
-      body-right = value-foreign ∙ ap (framed place n) body
+    pub value-framed : (t : Tree) (next : ℕ) → body ≡ right t next → value (suc d) s k at stop ≡ right (foreign foreignOwn t) (place + n)
+    value-framed t next e = value-foreign ∙ ap (framed place n) e
 
-      pub value-framed : next ≡ place + n → value (suc d) s k at stop ≡ right (hold kindForeign 0 (more t none)) (place + n)
-      value-framed e = body-right ∙ ap (λ (b : Bool). framedRight b t place n) (eq-eqb next (place + n) e)
-
-      pub value-extra : (next ≡ place + n → ⊥) → value (suc d) s k at stop ≡ right (leaf kindForeign place n (refusalNumber why.Extra) 0) (place + n)
-      value-extra f = body-right ∙ ap (λ (b : Bool). framedRight b t place n) (ne-eqb next (place + n) f)
-
-    pub value-damaged : (e : Refusal) (p : ℕ) → value d s (inForeign k) place (place + n) ≡ wrong e p
-        → value (suc d) s k at stop ≡ right (leaf kindForeign place n (refusalNumber e) 0) (place + n)
+    pub value-damaged : (e : Refusal) (p : ℕ) → body ≡ wrong e p → value (suc d) s k at stop ≡ right (damaged (damagedOwn place n (refusalNumber e))) (place + n)
     value-damaged e p q = value-foreign ∙ ap (framed place n) q
+
+-- ---- a whole document
+
+module _ (stop : ℕ) (x : Reading) where
+  pub whole-right : (t : Tree) (next : ℕ) → x ≡ right t next → next ≡ stop → whole stop x ≡ right t next
+  whole-right t next e q = ap (whole stop) e ∙ ap (λ (b : Bool). ended b t next) (eq-eqb next stop q)
+
+  pub whole-extra : (t : Tree) (next : ℕ) → x ≡ right t next → (next ≡ stop → ⊥) → whole stop x ≡ wrong why.Extra next
+  whole-extra t next e f = ap (whole stop) e ∙ ap (λ (b : Bool). ended b t next) (ne-eqb next stop f)
+
+  pub whole-wrong : (e : Refusal) (place : ℕ) → x ≡ wrong e place → whole stop x ≡ wrong e place
+  whole-wrong e place q = ap (whole stop) q
 
 -- ---- children
 
-module _ (s : List ℕ) (at stop : ℕ) (h : Head) (head : h ≡ keyAt s at stop) where
-  pub keyed-leaf : (c : Content) (next : ℕ) → h ≡ Leaf c next → keyed s (keyAt s at stop) ≡ right (leafOf s c) next
-  keyed-leaf c next e = ap (keyed s) (sym head ∙ e)
+module _ (s : List ℕ) (at stop : ℕ) (x : Spelling) (key : x ≡ keyAt s at stop) where
+  pub keyed-at : (place n : ℕ) → x ≡ At place n → keyed at (keyAt s at stop) ≡ right (leaf (spanOwn kindKey place n)) (place + n)
+  keyed-at place n e = ap (keyed at) (sym key ∙ e)
 
-  pub keyed-refuse : (e : Refusal) (place : ℕ) → h ≡ Refuse e place → keyed s (keyAt s at stop) ≡ wrong e place
-  keyed-refuse e place q = ap (keyed s) (sym head ∙ q)
+  pub keyed-no : (e : Refusal) → x ≡ No e → keyed at (keyAt s at stop) ≡ wrong e at
+  keyed-no e q = ap (keyed at) (sym key ∙ q)
 
 -- a key, or a value under the entries in force for it
 module _ (R : Reader) (s : List ℕ) (k i at stop : ℕ) where
-  pub child-key : (c : Children) → isKey c i ≡ true → child c R s k i at stop ≡ keyed s (keyAt s at stop)
+  pub child-key : (c : Children) → isKey c i ≡ true → child c R s k i at stop ≡ keyed at (keyAt s at stop)
   unfolding child
   child-key c e = ap (λ (b : Bool). inTurn b R s (inForce c k i) at stop) e
 
@@ -137,17 +147,14 @@ module _ (R : Reader) (c : Children) (s : List ℕ) (k i : ℕ) where
 -- ---- a document
 
 module _ (depth : ℕ) (s : List ℕ) where
-  module _ (t : Tree) (next : ℕ) (read : value (suc depth) s 0 0 (length s) ≡ right t next) where
-    read-to : document depth s ≡ ended (eqb next (length s)) t next
-    unfolding document
-    read-to = ap (whole (length s)) read
+  pub document-right : (t : Tree) (next : ℕ) → value (suc depth) s 0 0 (length s) ≡ right t next → next ≡ length s → document depth s ≡ right t next
+  unfolding document
+  document-right t next read e = whole-right (length s) (value (suc depth) s 0 0 (length s)) t next read e
 
-    pub document-right : next ≡ length s → document depth s ≡ right t next
-    document-right e = read-to ∙ ap (λ (b : Bool). ended b t next) (eq-eqb next (length s) e)
-
-    pub document-extra : (next ≡ length s → ⊥) → document depth s ≡ wrong why.Extra next
-    document-extra f = read-to ∙ ap (λ (b : Bool). ended b t next) (ne-eqb next (length s) f)
+  pub document-extra : (t : Tree) (next : ℕ) → value (suc depth) s 0 0 (length s) ≡ right t next → (next ≡ length s → ⊥) → document depth s ≡ wrong why.Extra next
+  unfolding document
+  document-extra t next read f = whole-extra (length s) (value (suc depth) s 0 0 (length s)) t next read f
 
   pub document-wrong : (e : Refusal) (place : ℕ) → value (suc depth) s 0 0 (length s) ≡ wrong e place → document depth s ≡ wrong e place
   unfolding document
-  document-wrong e place q = ap (whole (length s)) q
+  document-wrong e place q = whole-wrong (length s) (value (suc depth) s 0 0 (length s)) e place q

@@ -12,10 +12,12 @@ use Rattle.text.specs.declared.answer.Text.{Text}
 use Rattle.text.specs.declared.answer.Text.the-variants.{WellFormed, IllFormed}
 use Rattle.text.specs.Check.{textOf}
 use Rattle.rows.specs.Table.{limit}
-use Rattle.rows.specs.Kinds.{kindFloat, kindText, kindBinary, kindKey}
+use Rattle.rows.specs.Kinds.{kindFloat, kindText, kindBinary}
 use Rattle.format.specs.declared.refusal.Refusal.the-variants as why
 use Rattle.format.specs.declared.head.Count.{Count}
 use Rattle.format.specs.declared.head.Count.the-variants.{Is, Not}
+use Rattle.format.specs.declared.head.Spelling.{Spelling}
+use Rattle.format.specs.declared.head.Spelling.the-variants.{At, No}
 use Rattle.format.specs.declared.head.Content.{Content}
 use Rattle.format.specs.declared.head.Content.the-variants as holds
 use Rattle.format.specs.declared.head.Holder.{Holder}
@@ -67,15 +69,17 @@ abbrev pub bodied : ℕ → Content → ℕ → ℕ → ℕ → Head
 bodied at c place size stop = cond (leb size (stop - place)) (Leaf c (place + size)) (Refuse why.Short at)
 
 -- "Text follows RFC 3629", asked once its bytes are there
-abbrev pub spelled : ℕ → Text → Head → Head
-spelled at WellFormed h = h
-spelled at (IllFormed offset) h = Refuse why.Text at
+abbrev pub spelled : ℕ → ℕ → Text → Spelling
+spelled place size WellFormed = At place size
+spelled place size (IllFormed offset) = No why.Text
 
-abbrev pub textBody : List ℕ → ℕ → ℕ → ℕ → ℕ → ℕ → Head
-textBody s at kind place size stop =
-    cond (leb size (stop - place))
-    (spelled at (textOf (take size (drop place s))) (Leaf (holds.Span kind place size) (place + size)))
-    (Refuse why.Short at)
+abbrev pub spelling : List ℕ → ℕ → ℕ → ℕ → Spelling
+spelling s place size stop = cond (leb size (stop - place)) (spelled place size (textOf (take size (drop place s)))) (No why.Short)
+
+-- text behind its length: a text's, or a key's
+abbrev pub spellingOf : List ℕ → ℕ → Count → Spelling
+spellingOf s stop (Is n place) = spelling s place n stop
+spellingOf s stop (Not e) = No e
 
 -- "0..0x10FFFF without D800..DFFF"
 abbrev pub codepoint : ℕ → Bool
@@ -103,8 +107,9 @@ abbrev pub withCount : ℕ → Count → (ℕ → ℕ → Head) → Head
 withCount at (Is n next) rest = rest n next
 withCount at (Not e) rest = Refuse e at
 
-abbrev pub textHead : ℕ → List ℕ → ℕ → ℕ → Count → Head
-textHead kind s at stop c = withCount at c (λ n place. textBody s at kind place n stop)
+abbrev pub textHead : ℕ → Spelling → Head
+textHead at (At place size) = Leaf (holds.Span kindText place size) (place + size)
+textHead at (No e) = Refuse e at
 
 abbrev pub binaryHead : ℕ → ℕ → Count → Head
 binaryHead at stop c = withCount at c (λ n place. bodied at (holds.Span kindBinary place n) place n stop)
@@ -140,7 +145,7 @@ stands s at stop b small = Leaf (holds.Small b) (at + 1)
 stands s at stop b signedBody = integerHead at stop (b - 0x10) true
 stands s at stop b unsignedBody = integerHead at stop (b - 0x18) false
 stands s at stop b float = bodied at (holds.Span kindFloat (at + 1) (floatSize b)) (at + 1) (floatSize b) stop
-stands s at stop b text = textHead kindText s at stop (countAt textLength s at stop)
+stands s at stop b text = textHead at (spellingOf s stop (countAt textLength s at stop))
 stands s at stop b binary = binaryHead at stop (countAt binaryLength s at stop)
 stands s at stop b char = charHead s at stop
 stands s at stop b array = holderHead Array at (countAt arrayCount s at stop)
@@ -155,5 +160,5 @@ unfoldable pub headAt : List ℕ → ℕ → ℕ → Head
 headAt s at stop = cond (ltb at stop) (stands s at stop (getD s at 0) (markerOf (getD s at 0))) (Refuse why.Short at)
 
 -- "A record key is a length and text, with no marker"
-unfoldable pub keyAt : List ℕ → ℕ → ℕ → Head
-keyAt s at stop = textHead kindKey s at stop (countAt keyLength s at stop)
+unfoldable pub keyAt : List ℕ → ℕ → ℕ → Spelling
+keyAt s at stop = spellingOf s stop (countAt keyLength s at stop)

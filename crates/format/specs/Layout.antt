@@ -2,18 +2,18 @@
 use Prim.Native.Nat.{ℕ, _+_}
 use mathlib.Core.Bool.{Bool, true, false}
 use mathlib.Core.List.{List, [], _∷_, _++_}
-use lib.ListN.{getD}
-use Rattle.rows.specs.Table.{wordsOf}
-use Rattle.rows.specs.Kinds.{leafRow, holderRow, referenceRow, declarationRow}
+use lib.ListN.{length, getD, take}
+use Rattle.rows.specs.Table.{Own, rowOf, wordsOf}
 use Rattle.format.specs.declared.head.Children.{Children}
-use Rattle.format.specs.declared.head.Children.the-variants.{Plain, Keyed, Growing}
-use Rattle.format.specs.Tree.{Tree, leaf, refer, hold, declare, Trees, none, more, size, sizes}
+use Rattle.format.specs.declared.head.Children.the-variants.{Plain, Keyed, Entries}
+use Rattle.format.specs.Tree.{Tree, leaf, refer, hold, declare, foreign, damaged, Trees, none, more, size, sizes}
+use Rattle.format.specs.Value.{inForeign}
 
 -- whether each child is one more entry in force for those behind it
 abbrev pub isEntry : Children → Bool
 isEntry Plain = false
 isEntry Keyed = false
-isEntry Growing = true
+isEntry Entries = true
 
 -- the rows of the entries in force behind a tree at `row`: among the entries of a declaration that tree is one more
 abbrev pub grown : Bool → List ℕ → ℕ → List ℕ
@@ -24,16 +24,26 @@ unfoldable pub entries : Trees → ℕ → List ℕ → List ℕ
 entries none row registry = registry
 entries (more t ts) row registry = entries ts (row + size t) (grown true registry row)
 
+-- the rows of the entries that are in force in a foreign body, of those around it
+abbrev pub inBody : List ℕ → List ℕ
+inBody registry = take (inForeign (length registry)) registry
+
+-- "14 reference: w0 number, w1 row of that entry": what a reference's row says where its entry stands at `entry`; in the tree, 0
+abbrev pub aimed : Own → ℕ → Own
+aimed o entry = record { kind = o .kind; w0 = o .w0; w1 = entry; w2 = o .w2; w3 = o .w3 }
+
 -- "Rows stand in document order, a holder before its children": the words of a tree whose own row is `row`, where `registry` has the rows of
 -- the entries in force
 unfoldable mutual
   pub layout : Tree → ℕ → List ℕ → List ℕ
-  layout (leaf kind w0 w1 w2 w3) row registry = wordsOf (leafRow kind row w0 w1 w2 w3)
-  layout (refer number) row registry = wordsOf (referenceRow row number (getD registry number 0))
-  layout (hold kind count ts) row registry = wordsOf (holderRow kind (row + (1 + sizes ts)) count) ++ layouts ts false (row + 1) registry
-  layout (declare count es t) row registry =
-      wordsOf (declarationRow (row + (1 + (sizes es + size t))) count)
+  layout (leaf o) row registry = wordsOf (rowOf o (row + 1))
+  layout (refer o) row registry = wordsOf (rowOf (aimed o (getD registry (o .w0) 0)) (row + 1))
+  layout (hold o ts) row registry = wordsOf (rowOf o (row + (1 + sizes ts))) ++ layouts ts false (row + 1) registry
+  layout (declare o es t) row registry =
+      wordsOf (rowOf o (row + (1 + (sizes es + size t))))
       ++ (layouts es true (row + 1) [] ++ layout t (row + 1 + sizes es) (entries es (row + 1) []))
+  layout (foreign o t) row registry = wordsOf (rowOf o (row + (1 + size t))) ++ layout t (row + 1) (inBody registry)
+  layout (damaged o) row registry = wordsOf (rowOf o (row + 1))
 
   pub layouts : Trees → Bool → ℕ → List ℕ → List ℕ
   layouts none grows row registry = []

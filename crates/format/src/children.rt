@@ -50,7 +50,7 @@ impl Children {
         match self {
             Children::Plain => false,
             Children::Keyed => i % 2 == 0,
-            Children::Growing => false,
+            Children::Entries => false,
         }
     }
 
@@ -61,7 +61,7 @@ impl Children {
         match self {
             Children::Plain => around,
             Children::Keyed => around,
-            Children::Growing => i,
+            Children::Entries => i,
         }
     }
 }

@@ -6,6 +6,12 @@ pub enum Count {
     Not { why: Refusal },
 }
 
+// Where the bytes of a text or of a key stand, or why there is none.
+pub enum Spelling {
+    At { place: usize, size: usize },
+    No { why: Refusal },
+}
+
 // What a leaf holds.
 pub enum Content {
     Constant {
@@ -70,5 +76,5 @@ pub enum Head {
 pub enum Children {
     Plain,
     Keyed,
-    Growing,
+    Entries,
 }

@@ -12,4 +12,8 @@ pub use head::Content;
 pub use head::Count;
 pub use head::Head;
 pub use head::Holder;
+pub use head::Spelling;
 pub use refusal::Refusal;
+
+// How deep positions nest where a caller does not say.
+pub const DEPTH_LIMIT: usize = 32;

@@ -10,17 +10,17 @@ use lib.Seq.{drop-cons, length-take-le}
 use lib.Dec.{leb, eqb}
 use borrow.Author.Tests.{le-leb, lt-leb, lt-ltb, le-ltb, leb-true, leb-false, eq-eqb}
 use Rattle.wide.specs.declared.wide.Wide.{Wide}
-use Rattle.wide.specs.declared.answer.Read.the-variants as read
+use Rattle.variable.specs.declared.answer.Read.the-variants as read
 use Rattle.wide.specs.Words.{whole, valueOf, wideOf}
 use Rattle.wide.specs.Family.{Run, behind, hasByte, numberOf, Coded, is, short, other, longer, unmarked, marked, coded}
 use Rattle.wide.specs.Members.{run, none, unsigned, headed, keyLength}
-use Rattle.wide.specs.Answer.{readAs, readOf}
+use Rattle.variable.specs.Answer.{readAs, readOf}
 use Rattle.wide.proofs.Numbers.{Bytes, bytes-all, bytes-take, bytes-drop}
 use Rattle.wide.proofs.Wides.{value-wide}
 use Rattle.wide.proofs.Runs.{bytes-whole}
 use Rattle.wide.proofs.Families.{cond-yes, cond-no, Takes, coded-takes, Reads, reads}
 use Rattle.wide.proofs.Sound.{sound-variable}
-use Rattle.wide.proofs.Variables.{none-before, every-byte}
+use Rattle.variable.proofs.Variables.{none-before, every-byte}
 use Rattle.rows.specs.Table.{limit}
 use Rattle.format.specs.declared.refusal.Refusal.the-variants as why
 use Rattle.format.specs.declared.head.Count.the-variants.{Is, Not}

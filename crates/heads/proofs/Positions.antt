@@ -4,30 +4,36 @@ use mathlib.Core.Path.{_≡_, _∙_, sym, ap, ap₂, refl}
 use mathlib.Core.Bool.{Bool, true, false, not, cond, _&&_}
 use mathlib.Core.List.{List, [], _∷_}
 use native.Mathlib.Omega.{arith}
+use mir.Syntax.{w64}
+use mir.Val.{Fits}
 use lib.ListN.{length, getD, take, drop}
 use lib.Seq.{drop-cons}
 use lib.Dec.{leb, ltb, eqb}
-use borrow.Author.Tests.{le-leb, lt-leb, lt-ltb, le-ltb, eq-eqb, ne-eqb}
+use borrow.Author.Tests.{leb-true, le-leb, lt-leb, lt-ltb, le-ltb, eq-eqb, ne-eqb}
 use Rattle.wide.specs.declared.wide.Wide.{Wide}
 use Rattle.wide.specs.Number.{number}
 use Rattle.wide.specs.Words.{valueOf}
 use Rattle.wide.specs.Family.{behind}
 use Rattle.wide.specs.Members.{run, none, keyLength, declarationCount, foreignLength}
 use Rattle.wide.proofs.Numbers.{either}
-use Rattle.wide.proofs.Families.{cond-yes, cond-no}
+use Rattle.wide.proofs.Families.{cond-case, cond-yes, cond-no}
 use Rattle.text.specs.declared.answer.Text.{Text}
 use Rattle.text.specs.declared.answer.Text.the-variants.{WellFormed, IllFormed}
 use Rattle.text.specs.Check.{textOf, wellFormed}
 use Rattle.rows.specs.Table.{limit}
 use Rattle.rows.specs.Kinds.{kindFloat, kindText}
+use Rattle.format.specs.declared.refusal.Refusal.{Refusal}
 use Rattle.format.specs.declared.refusal.Refusal.the-variants as why
-use Rattle.format.specs.declared.head.Count.the-variants.{Is}
+use Rattle.format.specs.declared.head.Spelling.{Spelling}
+use Rattle.format.specs.declared.head.Spelling.the-variants.{At, No}
+use Rattle.format.specs.declared.head.Count.{Count}
+use Rattle.format.specs.declared.head.Count.the-variants.{Is, Not}
 use Rattle.format.specs.declared.head.Content.{Content}
 use Rattle.format.specs.declared.head.Content.the-variants as holds
 use Rattle.format.specs.declared.head.Holder.the-variants.{Array, Record, Map}
 use Rattle.format.specs.declared.head.Head.{Head}
 use Rattle.format.specs.declared.head.Head.the-variants.{Leaf, Hold, Refer, Declare, Foreign, Refuse}
-use Rattle.format.specs.Head.{Marker, constant, float, text, array, entries, map, binary, special, nothing, signedBody, unsignedBody, small, char, reference, markerOf, countAt, bodied, spelled, textBody, codepoint, charBody, charHead, floatSize, integerHead, textHead, binaryHead, holderHead, referHead, declareHead, foreignHead, specialHead, stands, headAt}
+use Rattle.format.specs.Head.{Marker, constant, float, text, array, entries, map, binary, special, nothing, signedBody, unsignedBody, small, char, reference, markerOf, countAt, bodied, spelled, spelling, spellingOf, codepoint, charBody, charHead, floatSize, integerHead, textHead, binaryHead, holderHead, referHead, declareHead, foreignHead, specialHead, stands, headAt, keyAt}
 use Rattle.heads.proofs.Counts.{count-behind, count-behind-two, count-alone}
 use Rattle.format.proofs.Markers as marker
 
@@ -39,8 +45,8 @@ beyond a b c d h = omega arith
 pub within-none : (w : Wide) → 0 < w .w1 + 2 ^ 32 * (w .w2 + 2 ^ 32 * w .w3) → false ≡ leb (valueOf w) limit
 within-none w h = sym (lt-leb (valueOf w) limit (beyond (w .w0) (w .w1) (w .w2) (w .w3) h))
 
-pub within-low : (w : Wide) → w .w3 ≡ 0 → w .w2 ≡ 0 → w .w1 ≡ 0 → leb (w .w0) 16777215 ≡ leb (valueOf w) limit
-within-low w a b c = ap (λ (n : ℕ). leb n limit) (low (w .w0) (w .w1) (w .w2) (w .w3) a b c)
+pub within-low : (w : Wide) (n : ℕ) (r : Bool) → w .w3 ≡ 0 → w .w2 ≡ 0 → w .w1 ≡ 0 → n ≡ w .w0 → r ≡ leb n limit → r ≡ leb (valueOf w) limit
+within-low w n r a b c e is = is ∙ ap (λ (m : ℕ). leb m limit) (e ∙ low (w .w0) (w .w1) (w .w2) (w .w3) a b c)
   where
     low : (x y z t : ℕ) → t ≡ 0 → z ≡ 0 → y ≡ 0 → x ≡ x + 2 ^ 32 * (y + 2 ^ 32 * (z + 2 ^ 32 * t))
     low x y z t a b c = omega arith
@@ -53,30 +59,73 @@ body-there at place size stop c h = sym (cond-yes (leb size (stop - place)) _ _ 
 pub body-cut : (at place size stop : ℕ) (c : Content) → stop - place < size → Refuse why.Short at ≡ bodied at c place size stop
 body-cut at place size stop c h = sym (cond-no (leb size (stop - place)) _ _ (lt-leb size (stop - place) h))
 
-module _ (s : List ℕ) (at kind place size stop : ℕ) where
-  pub text-cut : stop - place < size → Refuse why.Short at ≡ textBody s at kind place size stop
-  text-cut h = sym (cond-no (leb size (stop - place)) _ _ (lt-leb size (stop - place) h))
+module _ (s : List ℕ) (place size stop : ℕ) where
+  pub spelling-cut : stop - place < size → No why.Short ≡ spelling s place size stop
+  spelling-cut h = sym (cond-no (leb size (stop - place)) _ _ (lt-leb size (stop - place) h))
 
   -- by whether the bytes are text
-  text-there : (b : Bool) → size ≤ stop - place → b ≡ wellFormed (textOf (take (place + size - place) (drop place s)))
-      → textBody s at kind place size stop ≡ cond b (Leaf (holds.Span kind place size) (place + size)) (Refuse why.Text at)
-  text-there b h e =
+  spelling-there : (b : Bool) → size ≤ stop - place → b ≡ wellFormed (textOf (take (place + size - place) (drop place s)))
+      → spelling s place size stop ≡ cond b (At place size) (No why.Text)
+  spelling-there b h e =
       let n : place + size - place ≡ size = omega arith in
       cond-yes (leb size (stop - place)) _ _ (le-leb size (stop - place) h)
       ∙ told (textOf (take size (drop place s)))
-      ∙ ap (λ (x : Bool). cond x (Leaf (holds.Span kind place size) (place + size)) (Refuse why.Text at)) (sym (e ∙ ap (λ (k : ℕ). wellFormed (textOf (take k (drop place s)))) n))
+      ∙ ap (λ (x : Bool). cond x (At place size) (No why.Text)) (sym (e ∙ ap (λ (k : ℕ). wellFormed (textOf (take k (drop place s)))) n))
     where
-      told : (t : Text) → spelled at t (Leaf (holds.Span kind place size) (place + size)) ≡ cond (wellFormed t) (Leaf (holds.Span kind place size) (place + size)) (Refuse why.Text at)
+      told : (t : Text) → spelled place size t ≡ cond (wellFormed t) (At place size) (No why.Text)
       told WellFormed = refl
       told (IllFormed k) = refl
 
-  pub text-well : (b : Bool) → size ≤ stop - place → b ≡ wellFormed (textOf (take (place + size - place) (drop place s))) → b ≡ true
-      → Leaf (holds.Span kind place size) (place + size) ≡ textBody s at kind place size stop
-  text-well b h e w = sym (text-there b h e ∙ ap (λ (x : Bool). cond x (Leaf (holds.Span kind place size) (place + size)) (Refuse why.Text at)) w)
+  pub spelling-well : (b : Bool) → size ≤ stop - place → b ≡ wellFormed (textOf (take (place + size - place) (drop place s))) → b ≡ true
+      → At place size ≡ spelling s place size stop
+  spelling-well b h e w = sym (spelling-there b h e ∙ ap (λ (x : Bool). cond x (At place size) (No why.Text)) w)
 
-  pub text-ill : (b : Bool) → size ≤ stop - place → b ≡ wellFormed (textOf (take (place + size - place) (drop place s))) → b ≡ false
-      → Refuse why.Text at ≡ textBody s at kind place size stop
-  text-ill b h e w = sym (text-there b h e ∙ ap (λ (x : Bool). cond x (Leaf (holds.Span kind place size) (place + size)) (Refuse why.Text at)) w)
+  pub spelling-ill : (b : Bool) → size ≤ stop - place → b ≡ wellFormed (textOf (take (place + size - place) (drop place s))) → b ≡ false
+      → No why.Text ≡ spelling s place size stop
+  spelling-ill b h e w = sym (spelling-there b h e ∙ ap (λ (x : Bool). cond x (At place size) (No why.Text)) w)
+
+  -- a text that is spelled ends within the stop
+  pub spelling-within : place ≤ stop → (x : Spelling) → x ≡ spelling s place size stop → (from n : ℕ) → x ≡ At from n → from + n ≤ stop
+  spelling-within l x e from n q =
+      cond-case Within (leb size (stop - place)) (spelled place size (textOf (take size (drop place s)))) (No why.Short)
+      (λ h. go (textOf (take size (drop place s))) (leb-true size (stop - place) h))
+      (λ _ r. absurd (let z : _≡_ {A = ℕ} 0 1 = cc in omega arith))
+      (sym e ∙ q)
+    where
+      Within : Spelling → Type 0
+      Within y = y ≡ At from n → from + n ≤ stop
+
+      go : (t : Text) → size ≤ stop - place → Within (spelled place size t)
+      go WellFormed h r = let a : place ≡ from = cc in let b : size ≡ n = cc in omega arith
+      go (IllFormed k) h r = absurd (let z : _≡_ {A = ℕ} 0 1 = cc in omega arith)
+
+  pub spelling-fits : place ≤ stop → Fits w64 stop → (x : Spelling) → x ≡ spelling s place size stop → (from n : ℕ) → x ≡ At from n → Fits w64 (from + n)
+  spelling-fits l fit x e from n q = let h : from + n ≤ stop = spelling-within l x e from n q in omega arith
+
+  -- the head of a text
+  pub text-at : (at : ℕ) (x : Spelling) → x ≡ spelling s place size stop → (from n : ℕ) → x ≡ At from n
+      → Leaf (holds.Span kindText from n) (from + n) ≡ textHead at (spelling s place size stop)
+  text-at at x e from n q = ap (textHead at) (sym q ∙ e)
+
+  pub text-no : (at : ℕ) (x : Spelling) → x ≡ spelling s place size stop → (r : Refusal) → x ≡ No r → Refuse r at ≡ textHead at (spelling s place size stop)
+  text-no at x e r q = ap (textHead at) (sym q ∙ e)
+
+-- a text or a key whose length is c
+module _ (s : List ℕ) (from stop : ℕ) (c : Count) (count : c ≡ countAt keyLength s from stop) where
+  pub key-counted : (n next : ℕ) → c ≡ Is n next → (r : Spelling) → r ≡ spelling s next n stop → r ≡ keyAt s from stop
+  unfolding keyAt
+  key-counted n next q r e = e ∙ ap (spellingOf s stop) (sym q ∙ count)
+
+  pub key-uncounted : (e : Refusal) → c ≡ Not e → No e ≡ keyAt s from stop
+  unfolding keyAt
+  key-uncounted e q = ap (spellingOf s stop) (sym q ∙ count)
+
+  pub text-counted : (at n next : ℕ) → c ≡ Is n next → (r : Head) → r ≡ textHead at (spelling s next n stop)
+      → r ≡ textHead at (spellingOf s stop (countAt keyLength s from stop))
+  text-counted at n next q r e = e ∙ ap (λ (x : Count). textHead at (spellingOf s stop x)) (sym q ∙ count)
+
+  pub text-uncounted : (at : ℕ) (e : Refusal) → c ≡ Not e → Refuse e at ≡ textHead at (spellingOf s stop (countAt keyLength s from stop))
+  text-uncounted at e q = ap (λ (x : Count). textHead at (spellingOf s stop x)) (sym q ∙ count)
 
 -- ---- chars
 
@@ -171,10 +220,10 @@ module _ (s : List ℕ) (at stop : ℕ) (l : at < stop) where
 
   -- the number stands behind the marker
   module _ (h : stop ≤ length s) where
-    pub head-long-text : (b : ℕ) (r : Head) → b ≡ getD s at 0 → b ≡ 8 → r ≡ textHead kindText s at stop (countAt keyLength s (at + 1) stop) → r ≡ headAt s at stop
+    pub head-long-text : (b : ℕ) (r : Head) → b ≡ getD s at 0 → b ≡ 8 → r ≡ textHead at (spellingOf s stop (countAt keyLength s (at + 1) stop)) → r ≡ headAt s at stop
     unfolding stands markerOf behind
     head-long-text b r e g d =
-        d ∙ ap (textHead kindText s at stop) (sym (count-behind (run 0x80 32 1) 0x08 s at stop l h (sym e ∙ g) refl)) ∙ by text (ap markerOf (sym e ∙ g))
+        d ∙ ap (λ (c : Count). textHead at (spellingOf s stop c)) (sym (count-behind (run 0x80 32 1) 0x08 s at stop l h (sym e ∙ g) refl)) ∙ by text (ap markerOf (sym e ∙ g))
 
     pub head-binary : (b : ℕ) (r : Head) → b ≡ getD s at 0 → b ≡ 12 → r ≡ binaryHead at stop (countAt keyLength s (at + 1) stop) → r ≡ headAt s at stop
     unfolding stands markerOf behind
@@ -202,12 +251,12 @@ module _ (s : List ℕ) (at stop : ℕ) (l : at < stop) where
         d ∙ ap (referHead at) (sym (count-behind (run 0xc1 62 0) 0xff s at stop l h (sym e ∙ g) refl)) ∙ by reference (ap markerOf (sym e ∙ g))
 
     -- the number is in the marker
-    pub head-text : (b : ℕ) (r : Head) → b ≡ getD s at 0 → 128 ≤ b → b < 160 → r ≡ textBody s at kindText (at + 1) (b - 127) stop → r ≡ headAt s at stop
+    pub head-text : (b : ℕ) (r : Head) → b ≡ getD s at 0 → 128 ≤ b → b < 160 → r ≡ textHead at (spelling s (at + 1) (b - 127) stop) → r ≡ headAt s at stop
     unfolding stands
     head-text b r e g f d =
         let n : b - 127 ≡ 1 + (getD s at 0 - 0x80) = omega arith in
-        d ∙ ap (λ (x : ℕ). textHead kindText s at stop (Is x (at + 1))) n
-        ∙ ap (textHead kindText s at stop) (sym (count-alone 0x80 32 1 (0x08 ∷ []) s at stop l h (omega arith) (omega arith) (omega arith) (omega arith)))
+        d ∙ ap (λ (x : ℕ). textHead at (spelling s (at + 1) x stop)) n
+        ∙ ap (λ (c : Count). textHead at (spellingOf s stop c)) (sym (count-alone 0x80 32 1 (0x08 ∷ []) s at stop l h (omega arith) (omega arith) (omega arith) (omega arith)))
         ∙ by text (marker.is-text (getD s at 0) (omega arith) (omega arith))
 
     pub head-array : (b : ℕ) → b ≡ getD s at 0 → 160 ≤ b → b < 176 → Hold Array (b - 159) (at + 1) ≡ headAt s at stop

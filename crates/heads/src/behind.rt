@@ -3,8 +3,9 @@ ghost use mathlib.Core.Path.{_≡_};
 ghost use Prim.Native.Nat.{_≤_};
 ghost use lib.ListN.{length};
 ghost use Rattle.wide.specs.Members.{keyLength};
-ghost use Rattle.format.specs.Head.{countAt, textHead, binaryHead, holderHead, referHead, declareHead, foreignHead, keyAt};
+ghost use Rattle.format.specs.Head.{countAt, spellingOf, textHead, binaryHead, holderHead, referHead, declareHead, foreignHead, keyAt};
 use crate::body::bodied;
+use crate::body::spelling;
 use crate::body::text_body;
 use crate::count::length_at;
 use format::Content;
@@ -12,26 +13,31 @@ use format::Count;
 use format::Head;
 use format::Holder;
 use format::Refusal;
+use format::Spelling;
 use rows::Row;
 
-// A text, or a key.
-pub fn text(s: &[u8], at: usize, from: usize, stop: usize, kind: u32) -> Head
+// A text.
+pub fn text(s: &[u8], at: usize, from: usize, stop: usize) -> Head
     requires { ⌜ (from ≤ stop) × (stop ≤ length (now s)) ⌝ }
-    ensures { λ r. ⌜ r ≡ textHead kind (now (s .entry)) at stop (countAt keyLength (now (s .entry)) from stop) ⌝ }
+    ensures { λ r. ⌜ r ≡ textHead at (spellingOf (now (s .entry)) stop (countAt keyLength (now (s .entry)) from stop)) ⌝ }
 {
     let c = length_at(s, from, stop);
     match c {
-        Count::Is { value, next } => text_body(s, at, kind, next, value, stop),
+        Count::Is { value, next } => text_body(s, at, next, value, stop),
         Count::Not { why } => Head::Refuse { why, place: at },
     }
 }
 
 // A record's key at `at`: no marker stands before its length.
-pub fn key_at(s: &[u8], at: usize, stop: usize) -> Head
+pub fn key_at(s: &[u8], at: usize, stop: usize) -> Spelling
     requires { ⌜ (at ≤ stop) × (stop ≤ length (now s)) ⌝ }
     ensures { λ r. ⌜ r ≡ keyAt (now (s .entry)) at stop ⌝ }
 {
-    text(s, at, at, stop, Row::KEY)
+    let c = length_at(s, at, stop);
+    match c {
+        Count::Is { value, next } => spelling(s, next, value, stop),
+        Count::Not { why } => Spelling::No { why },
+    }
 }
 
 // A binary.

@@ -2,11 +2,13 @@
 ghost use mathlib.Core.Path.{_≡_};
 ghost use Prim.Native.Nat.{_+_, _*_, _≤_, _<_};
 ghost use lib.ListN.{length};
-ghost use Rattle.format.specs.Head.{bodied, textBody, codepoint, charHead, floatSize};
+ghost use Rattle.format.specs.Head.{bodied, spelling, textHead, codepoint, charHead, floatSize};
 use crate::count::index;
 use format::Content;
 use format::Head;
 use format::Refusal;
+use format::Spelling;
+use rows::Row;
 
 // A leaf whose body has `size` bytes from `place` on.
 pub fn bodied(at: usize, content: Content, place: usize, size: usize, stop: usize) -> Head
@@ -25,27 +27,42 @@ pub fn bodied(at: usize, content: Content, place: usize, size: usize, stop: usiz
     }
 }
 
-// A text, or a key: its bytes first, then whether they are text.
-pub fn text_body(s: &[u8], at: usize, kind: u32, place: usize, size: usize, stop: usize) -> Head
+// The bytes of a text or of a key: whether they are there first, then whether they are text.
+pub fn spelling(s: &[u8], place: usize, size: usize, stop: usize) -> Spelling
     requires { ⌜ (place ≤ stop) × (stop ≤ length (now s)) ⌝ }
-    ensures { λ r. ⌜ r ≡ textBody (now (s .entry)) at kind place size stop ⌝ }
+    ensures { λ r. ⌜ r ≡ spelling (now (s .entry)) place size stop ⌝ }
 {
     if stop - place < size {
-        return Head::Refuse {
+        return Spelling::No {
             why: Refusal::Short,
-            place: at,
         };
     }
     let end = place + size;
     if text::is_well_formed(&s[place..end]) {
-        return Head::Leaf {
-            content: Content::Span { kind, place, size },
-            next: end,
-        };
+        return Spelling::At { place, size };
     }
-    Head::Refuse {
-        why: Refusal::Text,
-        place: at,
+    Spelling::No { why: Refusal::Text }
+}
+
+// A text at `at`, whose bytes are from `place` on.
+pub fn text_body(s: &[u8], at: usize, place: usize, size: usize, stop: usize) -> Head
+    requires { ⌜ (place ≤ stop) × (stop ≤ length (now s)) ⌝ }
+    ensures { λ r. ⌜ r ≡ textHead at (spelling (now (s .entry)) place size stop) ⌝ }
+{
+    let x = spelling(s, place, size, stop);
+    match x {
+        Spelling::At {
+            place: from,
+            size: n,
+        } => Head::Leaf {
+            content: Content::Span {
+                kind: Row::TEXT,
+                place: from,
+                size: n,
+            },
+            next: from + n,
+        },
+        Spelling::No { why } => Head::Refuse { why, place: at },
     }
 }
 

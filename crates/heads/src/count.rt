@@ -9,7 +9,8 @@ ghost use Rattle.rows.specs.Table.{limit};
 ghost use Rattle.format.specs.Head.{countAt};
 use format::Count;
 use format::Refusal;
-use wide::Read;
+use rows::Row;
+use variable::Read;
 use wide::Wide;
 
 // A byte, to reckon with.
@@ -32,7 +33,7 @@ fn within(w: Wide) -> bool
     if w.w1 != 0 {
         return false;
     }
-    w.w0 <= 16777215
+    Row::within_limit(rows::number(w.w0))
 }
 
 // The longer forms, too.
@@ -40,7 +41,7 @@ fn long_length(s: &[u8], at: usize, stop: usize) -> Count
     requires { ⌜ (at ≤ stop) × (stop ≤ length (now s)) ⌝ }
     ensures { λ r. ⌜ r ≡ countAt keyLength (now (s .entry)) at stop ⌝ }
 {
-    let r = wide::read_unsigned(&s[at..stop]);
+    let r = variable::read_unsigned(&s[at..stop]);
     match r {
         Read::Got { value, used } => {
             if within(value) {

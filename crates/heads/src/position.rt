@@ -63,7 +63,7 @@ fn special_low(s: &[u8], at: usize, stop: usize, b: usize) -> Head
 {
     let from = at + 1;
     if b == 8 {
-        return behind::text(s, at, from, stop, Row::TEXT);
+        return behind::text(s, at, from, stop);
     }
     if b == 9 {
         return behind::holder(s, at, from, stop, Holder::Array);
@@ -180,7 +180,7 @@ pub fn head_at(s: &[u8], at: usize, stop: usize) -> Head
         };
     }
     if b < 160 {
-        return text_body(s, at, Row::TEXT, at + 1, b - 127, stop);
+        return text_body(s, at, at + 1, b - 127, stop);
     }
     high(s, at, stop, b)
 }

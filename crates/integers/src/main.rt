@@ -2,9 +2,9 @@
 // bytes used, or the refusal; then the shortest form, and what writing it into one byte less answers.
 ghost use Rattle.io.specs.Counts.{Counts};
 use libc::STDOUT_FILENO;
-use wide::Read;
+use variable::Read;
+use variable::Written;
 use wide::Wide;
-use wide::Written;
 
 // What stands at the front of `s`.
 fn show_read(s: &[u8], r: Read, name: u8) {
@@ -36,9 +36,9 @@ fn show_refused(s: &[u8], r: Read, name: u8) {
 
 fn write(out: &mut [u8], w: Wide, signed: bool) -> Written {
     if signed {
-        wide::write_signed(out, w)
+        variable::write_signed(out, w)
     } else {
-        wide::write_unsigned(out, w)
+        variable::write_unsigned(out, w)
     }
 }
 
@@ -136,8 +136,8 @@ fn show_all(input: &[u8]) {
         }
         let end = start + size;
         let s = &input[start..end];
-        show(s, wide::read_unsigned(s), b'u', false);
-        show(s, wide::read_signed(s), b's', true);
+        show(s, variable::read_unsigned(s), b'u', false);
+        show(s, variable::read_signed(s), b's', true);
         at = end;
     }
 }

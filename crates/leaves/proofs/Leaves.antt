@@ -1,7 +1,7 @@
--- A leaf's row has the words of the leaf, by each way out; and what a sane content gives. Assumes nothing.
+-- A leaf's row says what the leaf does, by each way out; and what a sane content gives. Assumes nothing.
 use mathlib.Core.Path.{_≡_, sym, ap, subst, _∙_}
 use mathlib.Core.Bool.{Bool, true, false, cond}
-use mathlib.Core.List.{List, []}
+use mathlib.Core.List.{List}
 use Prim.Native.Nat.{ℕ}
 use lib.ListN.{take, drop}
 use Rattle.wide.specs.declared.wide.Wide.{Wide}
@@ -11,13 +11,11 @@ use Rattle.wide.specs.Family.{numberOf, hasNumber}
 use Rattle.wide.specs.Members.{integerSigned, integerUnsigned, integer}
 use Rattle.wide.proofs.Nearness.{has-wide}
 use Rattle.rows.specs.declared.row.Row.{Row}
-use Rattle.rows.specs.Table.{wordsOf}
-use Rattle.rows.specs.Kinds.{kindSmall, kindSigned, kindUnsigned, leafRow, integerRow, spanRow, charRow}
+use Rattle.rows.specs.Kinds.{kindSmall, kindSigned, kindUnsigned, constantOwn, spanOwn, charOwn, leafRow}
 use Rattle.format.specs.declared.head.Content.{Content}
 use Rattle.format.specs.declared.head.Content.the-variants.{Constant, Small, Integer, Span, Char}
-use Rattle.format.specs.Value.{integerKind, leafOf}
-use Rattle.format.specs.Layout.{layout}
-use Rattle.leaves.specs.Sane.{Body, Part, Sane}
+use Rattle.format.specs.Value.{integerOwn, integerKind, leafOwn}
+use Rattle.leaves.specs.Contracts.{Body, Part, Sane}
 
 -- ---- what is asked
 
@@ -47,31 +45,31 @@ kind-wide : (s : Bool) (n : ℕ) → integerKind s (valueOf (wideOf n)) ≡ inte
 kind-wide true n = ap (λ (b : Bool). cond b kindSmall kindSigned) (has-wide (integerSigned .direct) n)
 kind-wide false n = ap (λ (b : Bool). cond b kindSmall kindUnsigned) (has-wide (integerUnsigned .direct) n)
 
--- ---- the words, by each way out
+-- ---- the row, by each way out
 
 module _ (s : List ℕ) (c : Content) (row : ℕ) (r : Row) where
-  pub constant-words : (kind : ℕ) → c ≡ Constant kind → r ≡ leafRow kind row 0 0 0 0 → wordsOf r ≡ layout (leafOf s c) row []
-  unfolding leafOf layout
-  constant-words kind e d = rw (e, d)
+  pub constant-row : (kind : ℕ) → c ≡ Constant kind → r ≡ leafRow (constantOwn kind) row → r ≡ leafRow (leafOwn s c) row
+  unfolding leafOwn
+  constant-row kind e d = rw e d
 
-  pub small-words : (marker : ℕ) (w : Wide) → c ≡ Small marker → w ≡ wideOf (numberOf (integerSigned .direct) marker)
-      → r ≡ integerRow kindSmall row (w .w0) (w .w1) (w .w2) (w .w3) → wordsOf r ≡ layout (leafOf s c) row []
-  unfolding leafOf layout
-  small-words marker w e v d = rw (e, d, v)
+  pub small-row : (marker : ℕ) (w : Wide) → c ≡ Small marker → w ≡ wideOf (numberOf (integerSigned .direct) marker)
+      → r ≡ leafRow (integerOwn kindSmall w) row → r ≡ leafRow (leafOwn s c) row
+  unfolding leafOwn
+  small-row marker w e v d = rw (e, ← v) d
 
-  pub integer-words : (signed : Bool) (place size : ℕ) (w : Wide) (kind : ℕ) → c ≡ Integer signed place size
+  pub integer-row : (signed : Bool) (place size : ℕ) (w : Wide) (kind : ℕ) → c ≡ Integer signed place size
       → w ≡ wideOf (bodyValue signed (take size (drop place s))) → kind ≡ integerKind signed (valueOf w)
-      → r ≡ integerRow kind row (w .w0) (w .w1) (w .w2) (w .w3) → wordsOf r ≡ layout (leafOf s c) row []
-  unfolding leafOf layout
-  integer-words signed place size w kind e v k d =
+      → r ≡ leafRow (integerOwn kind w) row → r ≡ leafRow (leafOwn s c) row
+  unfolding leafOwn
+  integer-row signed place size w kind e v k d =
       let n : ℕ = bodyValue signed (take size (drop place s)) in
       let is : kind ≡ integerKind signed n = k ∙ ap (λ (x : Wide). integerKind signed (valueOf x)) v ∙ kind-wide signed n in
       rw (e, d, is, v)
 
-  pub span-words : (kind place size : ℕ) → c ≡ Span kind place size → r ≡ spanRow kind row place size → wordsOf r ≡ layout (leafOf s c) row []
-  unfolding leafOf layout
-  span-words kind place size e d = rw (e, d)
+  pub span-row : (kind place size : ℕ) → c ≡ Span kind place size → r ≡ leafRow (spanOwn kind place size) row → r ≡ leafRow (leafOwn s c) row
+  unfolding leafOwn
+  span-row kind place size e d = rw e d
 
-  pub char-words : (codepoint : ℕ) → c ≡ Char codepoint → r ≡ charRow row codepoint → wordsOf r ≡ layout (leafOf s c) row []
-  unfolding leafOf layout
-  char-words codepoint e d = rw (e, d)
+  pub char-row : (codepoint : ℕ) → c ≡ Char codepoint → r ≡ leafRow (charOwn codepoint) row → r ≡ leafRow (leafOwn s c) row
+  unfolding leafOwn
+  char-row codepoint e d = rw e d

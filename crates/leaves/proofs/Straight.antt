@@ -1,7 +1,7 @@
 -- A leaf laid straight from its bytes, by each way out. Assumes nothing.
 use mathlib.Core.Path.{_≡_, _∙_, sym, ap, refl, subst}
 use mathlib.Core.Bool.{Bool, true, false}
-use mathlib.Core.List.{List, []}
+use mathlib.Core.List.{List}
 use Prim.Native.Nat.{ℕ, _+_, _-_, _*_, _≤_, _<_}
 use native.Mathlib.Omega.{arith}
 use lib.ListN.{length, getD, take, drop}
@@ -15,19 +15,19 @@ use Rattle.wide.proofs.Ranks.{size-low, size-high}
 use Rattle.text.specs.Check.{textOf, wellFormed}
 use Rattle.rows.specs.declared.row.Row.{Row}
 use Rattle.rows.specs.Table.{wordsPerRow, wordsOf}
-use Rattle.rows.specs.Kinds.{kindSmall, kindText, kindBinary, integerRow, spanRow}
+use Rattle.rows.specs.Kinds.{kindSmall, kindText, kindBinary, spanOwn, leafRow}
+use Rattle.format.specs.declared.head.Count.{Count}
 use Rattle.format.specs.declared.head.Count.the-variants.{Is}
 use Rattle.format.specs.declared.head.Content.{Content}
 use Rattle.format.specs.declared.head.Content.the-variants.{Small, Integer, Span}
 use Rattle.format.specs.declared.head.Head.{Head}
 use Rattle.format.specs.declared.head.Head.the-variants.{Leaf}
-use Rattle.format.specs.Head.{countAt, bodied, textBody, integerHead, textHead, binaryHead, headAt}
-use Rattle.format.specs.Value.{integerKind, leafOf}
-use Rattle.format.specs.Layout.{layout}
+use Rattle.format.specs.Head.{countAt, bodied, spelling, spellingOf, integerHead, textHead, binaryHead, headAt}
+use Rattle.format.specs.Value.{integerOwn, integerKind, leafOwn}
 use Rattle.heads.proofs.Counts.{length-one}
 use Rattle.heads.proofs.Positions as positions
-use Rattle.leaves.specs.Laying.{Tried}
-use Rattle.leaves.proofs.Leaves.{small-words, integer-words, span-words}
+use Rattle.leaves.specs.Contracts.{Tried}
+use Rattle.leaves.proofs.Leaves.{small-row, integer-row, span-row}
 
 -- ---- what a body asks
 
@@ -44,12 +44,12 @@ pub kept : (h : Head) (s table : List ℕ) (row : ℕ) → Tried h s table row t
 kept h s table row = record { kept = λ e. refl; laid = λ n. absurd (n refl) }
 
 -- the row q of the leaf c is laid, and the leaf ends at a place that is not 0
-laid : (h : Head) (s table : List ℕ) (row : ℕ) (table' : List ℕ) (next : ℕ) (c : Content) (q : Row) → h ≡ Leaf c next → wordsOf q ≡ layout (leafOf s c) row []
+laid : (h : Head) (s table : List ℕ) (row : ℕ) (table' : List ℕ) (next : ℕ) (c : Content) (q : Row) → h ≡ Leaf c next → q ≡ leafRow (leafOwn s c) row
     → table' ≡ sets table (wordsPerRow * row) (wordsOf q) → 0 < next → Tried h s table row table' next
 laid h s table row table' next c q e w f p =
     record {
       kept = λ z. absurd (let n : ⊥ = omega arith in n);
-      laid = λ z. record { content = c; is = e; put = f ∙ ap (sets table (wordsPerRow * row)) w };
+      laid = λ z. record { content = c; is = e; put = f ∙ ap (λ (x : Row). sets table (wordsPerRow * row) (wordsOf x)) w };
     }
 
 -- what another head of the same place was tried for
@@ -58,30 +58,30 @@ tried-as h h' s table row table' r e t = subst (λ (x : Head). Tried x s table r
 
 module _ (s table : List ℕ) (at row : ℕ) (table' : List ℕ) (q : Row) (f : table' ≡ sets table (wordsPerRow * row) (wordsOf q)) where
   -- a text, or a binary
-  module _ (kind place size stop : ℕ) (r : q ≡ spanRow kind row place size) (l : at < place) (h : size ≤ stop - place) where
-    pub text-laid : (b : Bool) → b ≡ wellFormed (textOf (take (place + size - place) (drop place s))) → b ≡ true
-        → Tried (textBody s at kind place size stop) s table row table' (place + size)
-    text-laid b e t =
-        laid (textBody s at kind place size stop) s table row table' (place + size) (Span kind place size) q
-        (sym (positions.text-well s at kind place size stop b h e t)) (span-words s (Span kind place size) row q kind place size refl r) f (omega arith)
+  module _ (place size stop : ℕ) (l : at < place) (h : size ≤ stop - place) where
+    pub text-laid : q ≡ leafRow (spanOwn kindText place size) row → (b : Bool) → b ≡ wellFormed (textOf (take (place + size - place) (drop place s))) → b ≡ true
+        → Tried (textHead at (spelling s place size stop)) s table row table' (place + size)
+    text-laid r b e t =
+        laid (textHead at (spelling s place size stop)) s table row table' (place + size) (Span kindText place size) q
+        (sym (ap (textHead at) (positions.spelling-well s place size stop b h e t))) (span-row s (Span kindText place size) row q kindText place size refl r) f (omega arith)
 
-    pub span-laid : Tried (bodied at (Span kind place size) place size stop) s table row table' (place + size)
-    span-laid =
-        laid (bodied at (Span kind place size) place size stop) s table row table' (place + size) (Span kind place size) q
-        (sym (positions.body-there at place size stop (Span kind place size) h)) (span-words s (Span kind place size) row q kind place size refl r) f (omega arith)
+    pub binary-laid : q ≡ leafRow (spanOwn kindBinary place size) row → Tried (bodied at (Span kindBinary place size) place size stop) s table row table' (place + size)
+    binary-laid r =
+        laid (bodied at (Span kindBinary place size) place size stop) s table row table' (place + size) (Span kindBinary place size) q
+        (sym (positions.body-there at place size stop (Span kindBinary place size) h)) (span-row s (Span kindBinary place size) row q kindBinary place size refl r) f (omega arith)
 
   pub integer-laid : (stop rank size : ℕ) (signed : Bool) (w : Wide) (kind : ℕ) → size ≡ sizeAt rank → size ≤ stop - (at + 1)
       → w ≡ wideOf (bodyValue signed (take size (drop (at + 1) s))) → kind ≡ integerKind signed (valueOf w)
-      → q ≡ integerRow kind row (w .w0) (w .w1) (w .w2) (w .w3) → Tried (integerHead at stop rank signed) s table row table' (at + 1 + size)
+      → q ≡ leafRow (integerOwn kind w) row → Tried (integerHead at stop rank signed) s table row table' (at + 1 + size)
   integer-laid stop rank size signed w kind z h v k r =
       rw (← z) (laid (bodied at (Integer signed (at + 1) size) (at + 1) size stop) s table row table' (at + 1 + size) (Integer signed (at + 1) size) q
       (sym (positions.body-there at (at + 1) size stop (Integer signed (at + 1) size) h))
-      (integer-words s (Integer signed (at + 1) size) row q signed (at + 1) size w kind refl v k r) f (omega arith))
+      (integer-row s (Integer signed (at + 1) size) row q signed (at + 1) size w kind refl v k r) f (omega arith))
 
-  pub small-laid : (m : ℕ) (w : Wide) → w ≡ wideOf (numberOf (integerSigned .direct) m) → q ≡ integerRow kindSmall row (w .w0) (w .w1) (w .w2) (w .w3)
+  pub small-laid : (m : ℕ) (w : Wide) → w ≡ wideOf (numberOf (integerSigned .direct) m) → q ≡ leafRow (integerOwn kindSmall w) row
       → Tried (Leaf (Small m) (at + 1)) s table row table' (at + 1)
   small-laid m w v r =
-      laid (Leaf (Small m) (at + 1)) s table row table' (at + 1) (Small m) q refl (small-words s (Small m) row q m w refl v r) f (omega arith)
+      laid (Leaf (Small m) (at + 1)) s table row table' (at + 1) (Small m) q refl (small-row s (Small m) row q m w refl v r) f (omega arith)
 
 -- ---- by the marker
 
@@ -97,7 +97,7 @@ module _ (s : List ℕ) (at stop : ℕ) (l : at < stop) (h : stop ≤ length s) 
     small-tried low high t =
         tried-as _ _ s table row table' r (ap (λ (x : ℕ). Leaf (Small x) (at + 1)) e ∙ positions.head-small s at stop l b (g ∙ e) low high) t
 
-    pub text-tried : 128 ≤ b → b < 160 → Tried (textBody s at kindText (at + 1) (b - 127) stop) s table row table' r → Tried (headAt s at stop) s table row table' r
+    pub text-tried : 128 ≤ b → b < 160 → Tried (textHead at (spelling s (at + 1) (b - 127) stop)) s table row table' r → Tried (headAt s at stop) s table row table' r
     text-tried low high t = tried-as _ _ s table row table' r (positions.head-text s at stop l h b _ (g ∙ e) low high refl) t
 
   -- the length is one byte
@@ -105,10 +105,10 @@ module _ (s : List ℕ) (at stop : ℕ) (l : at < stop) (h : stop ≤ length s) 
     count : countAt keyLength s (at + 1) stop ≡ Is n (at + 2)
     count = let p : at + 1 + 1 ≡ at + 2 = omega arith in sym (length-one s (at + 1) stop n (omega arith) h c (omega arith)) ∙ ap (Is n) p
 
-    pub long-text-tried : m ≡ 8 → Tried (textBody s at kindText (at + 2) n stop) s table row table' r → Tried (headAt s at stop) s table row table' r
+    pub long-text-tried : m ≡ 8 → Tried (textHead at (spelling s (at + 2) n stop)) s table row table' r → Tried (headAt s at stop) s table row table' r
     long-text-tried g t =
         tried-as _ _ s table row table' r
-        (ap (textHead kindText s at stop) (sym count) ∙ positions.head-long-text s at stop l h m _ e g refl) t
+        (ap (λ (c : Count). textHead at (spellingOf s stop c)) (sym count) ∙ positions.head-long-text s at stop l h m _ e g refl) t
 
     pub binary-tried : m ≡ 12 → Tried (bodied at (Span kindBinary (at + 2) n) (at + 2) n stop) s table row table' r → Tried (headAt s at stop) s table row table' r
     binary-tried g t =

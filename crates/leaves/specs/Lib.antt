@@ -1,2 +1,1 @@
-pub mod Laying
-pub mod Sane
+pub mod Contracts

@@ -1,13 +1,11 @@
 // The row of a leaf.
 ghost use mathlib.Core.Path.{_≡_};
-ghost use mathlib.Core.List.{[]};
 ghost use Prim.Native.Nat.{_<_};
 ghost use Rattle.wide.specs.Words.{valueOf};
-ghost use Rattle.rows.specs.Table.{wordsOf, limit};
-ghost use Rattle.rows.specs.Kinds.{integerRow};
-ghost use Rattle.format.specs.Value.{integerKind, leafOf};
-ghost use Rattle.format.specs.Layout.{layout};
-ghost use Rattle.leaves.specs.Sane.{Sane};
+ghost use Rattle.rows.specs.Table.{limit};
+ghost use Rattle.rows.specs.Kinds.{leafRow};
+ghost use Rattle.format.specs.Value.{integerOwn, integerKind, leafOwn};
+ghost use Rattle.leaves.specs.Contracts.{Sane};
 use format::Content;
 use rows::Row;
 use wide::Wide;
@@ -28,7 +26,7 @@ pub fn integer_kind(w: Wide, signed: bool) -> u32
 // The row of a number in four words.
 pub fn integer_row(kind: u32, row: usize, w: Wide) -> Row
     requires { ⌜ row < limit ⌝ }
-    ensures { λ r. ⌜ r ≡ integerRow kind row (w .w0) (w .w1) (w .w2) (w .w3) ⌝ }
+    ensures { λ r. ⌜ r ≡ leafRow (integerOwn kind w) row ⌝ }
 {
     Row::leaf(kind, row, w.w0, w.w1, w.w2, w.w3)
 }
@@ -36,7 +34,7 @@ pub fn integer_row(kind: u32, row: usize, w: Wide) -> Row
 // Its words are put together here and in plain.rt: measuring needs none.
 pub fn leaf_row(s: &[u8], row: usize, c: Content) -> Row
     requires { ⌜ (row < limit) × Sane (now s) c ⌝ }
-    ensures { λ r. ⌜ wordsOf r ≡ layout (leafOf (now (s .entry)) c) row [] ⌝ }
+    ensures { λ r. ⌜ r ≡ leafRow (leafOwn (now (s .entry)) c) row ⌝ }
 {
     match c {
         Content::Constant { kind } => Row::leaf(kind, row, 0, 0, 0, 0),

@@ -7,8 +7,8 @@ ghost use Rattle.rows.specs.Table.{lent, limit};
 ghost use Rattle.rows.specs.Kinds.{kindBinary};
 ghost use Rattle.format.specs.declared.head.Content.the-variants.{Small, Span};
 ghost use Rattle.format.specs.declared.head.Head.the-variants.{Leaf};
-ghost use Rattle.format.specs.Head.{bodied, textBody, integerHead, headAt};
-ghost use Rattle.leaves.specs.Laying.{Tried};
+ghost use Rattle.format.specs.Head.{bodied, spelling, textHead, integerHead, headAt};
+ghost use Rattle.leaves.specs.Contracts.{Tried};
 use crate::leaf::integer_kind;
 use crate::leaf::integer_row;
 use rows::Row;
@@ -19,7 +19,6 @@ fn lay_text(
     table: &mut [u32],
     s: &[u8],
     at: usize,
-    kind: u32,
     place: usize,
     size: usize,
     stop: usize,
@@ -27,14 +26,14 @@ fn lay_text(
 ) -> usize
     requires { ⌜ (at < place) × (place ≤ stop) × (stop ≤ length (now s)) × (length (now s) ≤ limit) ⌝ }
     requires { ⌜ (row < lent (now table)) × (row < limit) ⌝ }
-    ensures { λ r. ⌜ Tried (textBody (now (s .entry)) at kind place size stop) (now (s .entry)) (now (table .entry)) row (now (table .exit)) r ⌝ }
+    ensures { λ r. ⌜ Tried (textHead at (spelling (now (s .entry)) place size stop)) (now (s .entry)) (now (table .entry)) row (now (table .exit)) r ⌝ }
 {
     if stop - place < size {
         return 0;
     }
     let end = place + size;
     if text::is_well_formed(&s[place..end]) {
-        rows::lay(table, row, Row::span(kind, row, place, size));
+        rows::lay(table, row, Row::text(row, place, size));
         return end;
     }
     0
@@ -57,7 +56,7 @@ fn lay_binary(
     if stop - place < size {
         return 0;
     }
-    rows::lay(table, row, Row::span(Row::BINARY, row, place, size));
+    rows::lay(table, row, Row::binary(row, place, size));
     place + size
 }
 
@@ -112,7 +111,7 @@ fn lay_short(table: &mut [u32], s: &[u8], at: usize, stop: usize, marker: u8, ro
         return 0;
     }
     if marker == 8 {
-        return lay_text(table, s, at, Row::TEXT, place, size, stop, row);
+        return lay_text(table, s, at, place, size, stop, row);
     }
     if marker == 12 {
         return lay_binary(table, s, at, place, size, stop, row);
@@ -141,7 +140,7 @@ pub fn lay_plain(table: &mut [u32], s: &[u8], at: usize, stop: usize, row: usize
         return lay_small(table, s, at, marker, row);
     }
     if b < 160 {
-        return lay_text(table, s, at, Row::TEXT, at + 1, b - 127, stop, row);
+        return lay_text(table, s, at, at + 1, b - 127, stop, row);
     }
     0
 }

@@ -9,21 +9,24 @@ use lib.ListN.{length}
 use borrow.Author.Tests.{eq-eqb, ne-eqb}
 use mir.Syntax.{w64}
 use mir.Val.{Fits}
+use Rattle.rows.specs.Table.{Own}
+use Rattle.rows.specs.Kinds.{holderOwn, referenceOwn}
 use Rattle.format.specs.declared.refusal.Refusal.{Refusal}
 use Rattle.format.specs.declared.refusal.Refusal.the-variants as why
+use Rattle.format.specs.declared.head.Spelling.{Spelling}
+use Rattle.format.specs.declared.head.Spelling.the-variants.{At, No}
 use Rattle.format.specs.declared.head.Content.{Content}
 use Rattle.format.specs.declared.head.Holder.{Holder}
 use Rattle.format.specs.declared.head.Head.{Head}
 use Rattle.format.specs.declared.head.Head.the-variants.{Leaf, Hold, Refer, Declare, Foreign, Refuse}
 use Rattle.format.specs.declared.head.Children.{Children}
-use Rattle.format.specs.declared.head.Children.the-variants.{Growing}
-use Rattle.format.specs.Tree.{Tree, refer, Trees, size, sizes}
+use Rattle.format.specs.declared.head.Children.the-variants.{Entries}
+use Rattle.format.specs.Tree.{Tree, leaf, refer, Trees, size, sizes}
 use Rattle.format.specs.Head.{headAt, keyAt}
-use Rattle.format.specs.Value.{Reading, right, wrong, Run, ran, broke, Reader, leafOf, kindOf, childCount, childrenOf, keyed, child, isKey, inForce, ahead, follow, run, held, closed, declaring, framed, inForeign, value, document}
-use Rattle.format.specs.Value as values
+use Rattle.format.specs.Value.{Reading, right, wrong, Run, ran, broke, Reader, leafOwn, kindOf, childCount, childrenOf, keyed, child, isKey, inForce, ahead, follow, run, held, closed, declaring, whole, framed, inForeign, value, document}
 use Rattle.format.proofs.Steps as clauses
-use Rattle.format.proofs.Heads.{hold-after, declare-after, foreign-after, foreign-within}
-use Rattle.format.proofs.Values.{leaf-size, ReadAt, RunAt, value-read, values-run, values-child}
+use Rattle.format.proofs.Heads.{hold-after, declare-after, foreign-after, foreign-within, key-within}
+use Rattle.format.proofs.Values.{ReadAt, RunAt, value-read, values-run, values-child}
 use Rattle.measure.specs.declared.measured.Measured.{Measured}
 use Rattle.measure.specs.declared.measured.Measured.the-variants.{Right, Wrong}
 use Rattle.measure.specs.Measured.{measuredOf, measuredRun}
@@ -46,14 +49,14 @@ run-bound at stop (broke x p) k r n e = absurd (let z : _≡_ {A = ℕ} 0 1 = cc
 
 -- ---- readings by what is measured of them
 
-held-right : (kind count : ℕ) (y : Run) (r n : ℕ) → measuredRun y ≡ Right r n → Right (1 + r) n ≡ measuredOf (held kind count y)
+held-right : (o : Own) (y : Run) (r n : ℕ) → measuredRun y ≡ Right r n → Right (1 + r) n ≡ measuredOf (held o y)
 unfolding size
-held-right kind count (ran ts m) r n e = cc
-held-right kind count (broke x p) r n e = cc
+held-right o (ran ts m) r n e = cc
+held-right o (broke x p) r n e = cc
 
-held-wrong : (kind count : ℕ) (y : Run) (e : Refusal) (p : ℕ) → measuredRun y ≡ Wrong e p → Wrong e p ≡ measuredOf (held kind count y)
-held-wrong kind count (ran ts m) e p h = cc
-held-wrong kind count (broke x q) e p h = cc
+held-wrong : (o : Own) (y : Run) (e : Refusal) (p : ℕ) → measuredRun y ≡ Wrong e p → Wrong e p ≡ measuredOf (held o y)
+held-wrong o (ran ts m) e p h = cc
+held-wrong o (broke x q) e p h = cc
 
 closed-right : (c : ℕ) (es : Trees) (x : Reading) (r n : ℕ) → measuredOf x ≡ Right r n → Right (1 + (sizes es + r)) n ≡ measuredOf (closed c es x)
 unfolding size
@@ -83,23 +86,25 @@ declaring-wrong-last c (ran es q) R stop a m e p h g =
     closed-wrong c es (R c q stop) e p (rw i at g)
 declaring-wrong-last c (broke x q) R stop a m e p h g = cc
 
-add-zero-of : (a r : ℕ) → a ≡ r → r ≡ a + 0
-add-zero-of a r e = omega arith
-
-framed-whole : (p z : ℕ) (x : Reading) (r n : ℕ) → measuredOf x ≡ Right r n → n ≡ p + z → Right (1 + r) (p + z) ≡ measuredOf (framed p z x)
-unfolding size sizes
-framed-whole p z (right t m) r n e g =
-    let h : r ≡ size t + 0 = add-zero-of (size t) r (cc) in
-    let i : m ≡ p + z = cc in
-    rw (eq-eqb m (p + z) i) (ap (λ (x : ℕ). Right (1 + x) (p + z)) h)
-framed-whole p z (wrong x q) r n e g = cc
-
-framed-extra : (p z : ℕ) (x : Reading) (r n : ℕ) → measuredOf x ≡ Right r n → (n ≡ p + z → ⊥) → Right 1 (p + z) ≡ measuredOf (framed p z x)
-unfolding size
-framed-extra p z (right t m) r n e g =
+whole-right : (stop : ℕ) (x : Reading) (r n : ℕ) → measuredOf x ≡ Right r n → n ≡ stop → Right r n ≡ measuredOf (whole stop x)
+whole-right stop (right t m) r n e h =
     let i : m ≡ n = cc in
-    rw (i, ne-eqb n (p + z) g)
-framed-extra p z (wrong x q) r n e g = cc
+    let j : m ≡ stop = cc in
+    rw (eq-eqb m stop j) (sym e)
+whole-right stop (wrong x p) r n e h = cc
+
+whole-extra : (stop : ℕ) (x : Reading) (r n : ℕ) → measuredOf x ≡ Right r n → (n ≡ stop → ⊥) → Wrong why.Extra n ≡ measuredOf (whole stop x)
+whole-extra stop (right t m) r n e h = let i : m ≡ n = cc in rw (i, ne-eqb n stop h)
+whole-extra stop (wrong x p) r n e h = cc
+
+whole-wrong : (stop : ℕ) (x : Reading) (e : Refusal) (p : ℕ) → measuredOf x ≡ Wrong e p → Wrong e p ≡ measuredOf (whole stop x)
+whole-wrong stop (right t m) e p h = cc
+whole-wrong stop (wrong x q) e p h = cc
+
+framed-right : (p z : ℕ) (x : Reading) (r n : ℕ) → measuredOf x ≡ Right r n → Right (1 + r) (p + z) ≡ measuredOf (framed p z x)
+unfolding size
+framed-right p z (right t m) r n e = cc
+framed-right p z (wrong x q) r n e = cc
 
 framed-wrong : (p z : ℕ) (x : Reading) (e : Refusal) (q : ℕ) → measuredOf x ≡ Wrong e q → Right 1 (p + z) ≡ measuredOf (framed p z x)
 unfolding size
@@ -108,27 +113,17 @@ framed-wrong p z (wrong x w) e q h = refl
 
 -- ---- keys
 
-module _ (s : List ℕ) (at stop : ℕ) (h : Head) (head : h ≡ keyAt s at stop) where
-  by-key : (g : Head) → h ≡ g → (m : Measured) → m ≡ measuredOf (keyed s g) → m ≡ measuredOf (keyed s (keyAt s at stop))
-  by-key g e m f = rw (← head, e) f
+module _ (s : List ℕ) (at stop : ℕ) (x : Spelling) (key : x ≡ keyAt s at stop) where
+  module _ (place n : ℕ) (e : x ≡ At place n) where
+    pub key-fits : Fits w64 stop → Fits w64 (place + n)
+    key-fits fit = omega (arith, key-within s at stop x key place n e)
 
-  pub key-leaf : (c : Content) (n : ℕ) → h ≡ Leaf c n → Right 1 n ≡ measuredOf (keyed s (keyAt s at stop))
-  key-leaf c n e = by-key (Leaf c n) e (Right 1 n) (ap (λ (z : ℕ). Right z n) (sym (leaf-size s c)))
+    pub key-right : Right 1 (place + n) ≡ measuredOf (keyed at (keyAt s at stop))
+    unfolding size
+    key-right = sym (ap measuredOf (clauses.keyed-at s at stop x key place n e))
 
-  pub key-refuse : (x : Refusal) (p : ℕ) → h ≡ Refuse x p → Wrong x p ≡ measuredOf (keyed s (keyAt s at stop))
-  key-refuse x p e = by-key (Refuse x p) e (Wrong x p) refl
-
-  pub key-hold : (x : Holder) (c n : ℕ) → h ≡ Hold x c n → Wrong why.Marker n ≡ measuredOf (keyed s (keyAt s at stop))
-  key-hold x c n e = by-key (Hold x c n) e (Wrong why.Marker n) refl
-
-  pub key-refer : (c n : ℕ) → h ≡ Refer c n → Wrong why.Marker n ≡ measuredOf (keyed s (keyAt s at stop))
-  key-refer c n e = by-key (Refer c n) e (Wrong why.Marker n) refl
-
-  pub key-declare : (c n : ℕ) → h ≡ Declare c n → Wrong why.Marker n ≡ measuredOf (keyed s (keyAt s at stop))
-  key-declare c n e = by-key (Declare c n) e (Wrong why.Marker n) refl
-
-  pub key-foreign : (p z : ℕ) → h ≡ Foreign p z → Wrong why.Marker p ≡ measuredOf (keyed s (keyAt s at stop))
-  key-foreign p z e = by-key (Foreign p z) e (Wrong why.Marker p) refl
+  pub key-wrong : (e : Refusal) → x ≡ No e → Wrong e at ≡ measuredOf (keyed at (keyAt s at stop))
+  key-wrong e q = sym (ap measuredOf (clauses.keyed-no s at stop x key e q))
 
 -- ---- a value position, by its head h and the levels left d
 
@@ -140,12 +135,12 @@ module _ (s : List ℕ) (d k at stop : ℕ) (h : Head) (head : h ≡ headAt s at
   by x e m f = f ∙ ap measuredOf (sym (clauses.value-left d s k at stop x left e))
 
   pub value-leaf : (c : Content) (n : ℕ) → h ≡ Leaf c n → Right 1 n ≡ measuredOf (value d s k at stop)
-  value-leaf c n e =
-      by (right (leafOf s c) n) (clauses.value-leaf (d - 1) s k at stop h head c n e) (Right 1 n) (ap (λ (z : ℕ). Right z n) (sym (leaf-size s c)))
+  unfolding size
+  value-leaf c n e = by (right (leaf (leafOwn s c)) n) (clauses.value-leaf (d - 1) s k at stop h head c n e) (Right 1 n) refl
 
   pub value-refer : (i n : ℕ) → h ≡ Refer i n → i < k → Right 1 n ≡ measuredOf (value d s k at stop)
   unfolding size
-  value-refer i n e l = by (right (refer i) n) (clauses.value-refer (d - 1) s k at stop h head i n e l) (Right 1 n) refl
+  value-refer i n e l = by (right (refer (referenceOwn i 0)) n) (clauses.value-refer (d - 1) s k at stop h head i n e l) (Right 1 n) refl
 
   pub value-no-entry : (i n : ℕ) → h ≡ Refer i n → k ≤ i → Wrong why.NoEntry at ≡ measuredOf (value d s k at stop)
   value-no-entry i n e l = by (wrong why.NoEntry at) (clauses.value-no-entry (d - 1) s k at stop h head i n e l) (Wrong why.NoEntry at) refl
@@ -154,14 +149,14 @@ module _ (s : List ℕ) (d k at stop : ℕ) (h : Head) (head : h ≡ headAt s at
   value-refuse x p e = by (wrong x p) (clauses.value-refuse (d - 1) s k at stop h head x p e) (Wrong x p) refl
 
   pub value-hold : (x : Holder) (c n : ℕ) → h ≡ Hold x c n → (m : Measured)
-      → m ≡ measuredOf (held (kindOf x) c (run (value (d - 1) s) (childrenOf x) s k 0 (childCount x c) n stop)) → m ≡ measuredOf (value d s k at stop)
+      → m ≡ measuredOf (held (holderOwn (kindOf x) c) (run (value (d - 1) s) (childrenOf x) s k 0 (childCount x c) n stop)) → m ≡ measuredOf (value d s k at stop)
   value-hold x c n e m f = by _ (clauses.value-hold (d - 1) s k at stop h head x c n e) m f
 
   pub value-declare : (c n : ℕ) → h ≡ Declare c n → (m : Measured)
-      → m ≡ measuredOf (declaring c (run (value (d - 1) s) Growing s 0 0 c n stop) (value (d - 1) s) stop) → m ≡ measuredOf (value d s k at stop)
+      → m ≡ measuredOf (declaring c (run (value (d - 1) s) Entries s 0 0 c n stop) (value (d - 1) s) stop) → m ≡ measuredOf (value d s k at stop)
   value-declare c n e m f = by _ (clauses.value-declare (d - 1) s k at stop h head c n e) m f
 
-  pub value-foreign : (p z : ℕ) → h ≡ Foreign p z → (m : Measured) → m ≡ measuredOf (framed p z (value (d - 1) s (inForeign k) p (p + z))) → m ≡ measuredOf (value d s k at stop)
+  pub value-foreign : (p z : ℕ) → h ≡ Foreign p z → (m : Measured) → m ≡ measuredOf (framed p z (whole (p + z) (value (d - 1) s (inForeign k) p (p + z)))) → m ≡ measuredOf (value d s k at stop)
   value-foreign p z e m f = by _ (clauses.value-foreign (d - 1) s k at stop h head p z e) m f
 
 -- ---- where a call starts
@@ -203,14 +198,14 @@ module _ (s : List ℕ) (d at stop k : ℕ) (c : Children) (count : ℕ) (m : Me
       whole-fits = omega (arith, sum)
 
   module _ (x : Holder) (w : ℕ) (ec : c ≡ childrenOf x) (en : count ≡ childCount x w) where
-    same : held (kindOf x) w (run (value d s) c s k 0 count at stop) ≡ held (kindOf x) w (run (value d s) (childrenOf x) s k 0 (childCount x w) at stop)
-    same = ap₂ (λ (y : Children) (z : ℕ). held (kindOf x) w (run (value d s) y s k 0 z at stop)) ec en
+    same : held (holderOwn (kindOf x) w) (run (value d s) c s k 0 count at stop) ≡ held (holderOwn (kindOf x) w) (run (value d s) (childrenOf x) s k 0 (childCount x w) at stop)
+    same = ap₂ (λ (y : Children) (z : ℕ). held (holderOwn (kindOf x) w) (run (value d s) y s k 0 z at stop)) ec en
 
-    pub hold-right : (r n : ℕ) → m ≡ Right r n → Right (1 + r) n ≡ measuredOf (held (kindOf x) w (run (value d s) (childrenOf x) s k 0 (childCount x w) at stop))
-    hold-right r n e = held-right (kindOf x) w (run (value d s) c s k 0 count at stop) r n (cc) ∙ ap measuredOf same
+    pub hold-right : (r n : ℕ) → m ≡ Right r n → Right (1 + r) n ≡ measuredOf (held (holderOwn (kindOf x) w) (run (value d s) (childrenOf x) s k 0 (childCount x w) at stop))
+    hold-right r n e = held-right (holderOwn (kindOf x) w) (run (value d s) c s k 0 count at stop) r n (cc) ∙ ap measuredOf same
 
-    pub hold-wrong : (y : Refusal) (p : ℕ) → m ≡ Wrong y p → Wrong y p ≡ measuredOf (held (kindOf x) w (run (value d s) (childrenOf x) s k 0 (childCount x w) at stop))
-    hold-wrong y p e = held-wrong (kindOf x) w (run (value d s) c s k 0 count at stop) y p (cc) ∙ ap measuredOf same
+    pub hold-wrong : (y : Refusal) (p : ℕ) → m ≡ Wrong y p → Wrong y p ≡ measuredOf (held (holderOwn (kindOf x) w) (run (value d s) (childrenOf x) s k 0 (childCount x w) at stop))
+    hold-wrong y p e = held-wrong (holderOwn (kindOf x) w) (run (value d s) c s k 0 count at stop) y p (cc) ∙ ap measuredOf same
 
   pub entry-wrong : (e : ℕ) (x : Refusal) (p : ℕ) → m ≡ Wrong x p → Wrong x p ≡ measuredOf (declaring e (run (value d s) c s k 0 count at stop) (value d s) stop)
   entry-wrong e x p f = declaring-wrong e (run (value d s) c s k 0 count at stop) (value d s) stop x p (cc)
@@ -229,6 +224,9 @@ children-stop s d at stop k c count m e a q f h = bound s d at stop k c count m 
 -- ---- a foreign body, inside which k entries are in force
 
 module _ (s : List ℕ) (d around k p z : ℕ) (in-force : k ≡ inForeign around) (m : Measured) (inside : m ≡ measuredOf (value d s k p (p + z))) where
+  abbrev body : Reading
+  body = whole (p + z) (value d s (inForeign around) p (p + z))
+
   read : m ≡ measuredOf (value d s (inForeign around) p (p + z))
   read = rw in-force at inside
 
@@ -237,19 +235,19 @@ module _ (s : List ℕ) (d around k p z : ℕ) (in-force : k ≡ inForeign aroun
       let b : (p + r ≤ q) × (q ≤ p + z) = read-bound p (p + z) (value d s (inForeign around) p (p + z)) (value-read d s (inForeign around) p (p + z)) r q (cc) in
       omega arith
 
-  pub frame-right : (r q : ℕ) → m ≡ Right r q → q ≡ p + z → Right (1 + r) (p + z) ≡ measuredOf (framed p z (value d s (inForeign around) p (p + z)))
-  frame-right r q f g = framed-whole p z (value d s (inForeign around) p (p + z)) r q (cc) g
+  pub frame-right : (r q : ℕ) → m ≡ Right r q → q ≡ p + z → Right (1 + r) (p + z) ≡ measuredOf (framed p z body)
+  frame-right r q f g = framed-right p z body r q (sym (whole-right (p + z) (value d s (inForeign around) p (p + z)) r q (cc) g))
 
-  pub frame-extra : (r q : ℕ) → m ≡ Right r q → (q ≡ p + z → ⊥) → Right 1 (p + z) ≡ measuredOf (framed p z (value d s (inForeign around) p (p + z)))
-  frame-extra r q f g = framed-extra p z (value d s (inForeign around) p (p + z)) r q (cc) g
+  pub frame-extra : (r q : ℕ) → m ≡ Right r q → (q ≡ p + z → ⊥) → Right 1 (p + z) ≡ measuredOf (framed p z body)
+  frame-extra r q f g = framed-wrong p z body why.Extra q (sym (whole-extra (p + z) (value d s (inForeign around) p (p + z)) r q (cc) g))
 
-  pub frame-wrong : (x : Refusal) (q : ℕ) → m ≡ Wrong x q → Right 1 (p + z) ≡ measuredOf (framed p z (value d s (inForeign around) p (p + z)))
-  frame-wrong x q f = framed-wrong p z (value d s (inForeign around) p (p + z)) x q (cc)
+  pub frame-wrong : (x : Refusal) (q : ℕ) → m ≡ Wrong x q → Right 1 (p + z) ≡ measuredOf (framed p z body)
+  frame-wrong x q f = framed-wrong p z body x q (sym (whole-wrong (p + z) (value d s (inForeign around) p (p + z)) x q (cc)))
 
 -- ---- one child
 
 module _ (R : Reader) (s : List ℕ) (k i at stop : ℕ) (c : Children) (m : Measured) (b : Bool) (e : b ≡ isKey c i) where
-  pub child-key : b ≡ true → m ≡ measuredOf (keyed s (keyAt s at stop)) → m ≡ measuredOf (child c R s k i at stop)
+  pub child-key : b ≡ true → m ≡ measuredOf (keyed at (keyAt s at stop)) → m ≡ measuredOf (child c R s k i at stop)
   child-key t f = rw (clauses.child-key R s k i at stop c (sym e ∙ t)) f
 
   pub child-value : b ≡ false → (n : ℕ) → n ≡ inForce c k i → m ≡ measuredOf (R n at stop) → m ≡ measuredOf (child c R s k i at stop)
@@ -336,21 +334,6 @@ module _ (s : List ℕ) (d : ℕ) (c : Children) (k count at stop i rows place :
       omega (arith, kept .before)
 
 -- ---- a whole document
-
-whole-right : (stop : ℕ) (x : Reading) (r n : ℕ) → measuredOf x ≡ Right r n → n ≡ stop → Right r n ≡ measuredOf (values.whole stop x)
-whole-right stop (right t m) r n e h =
-    let i : m ≡ n = cc in
-    let j : m ≡ stop = cc in
-    rw (eq-eqb m stop j) (sym e)
-whole-right stop (wrong x p) r n e h = cc
-
-whole-extra : (stop : ℕ) (x : Reading) (r n : ℕ) → measuredOf x ≡ Right r n → (n ≡ stop → ⊥) → Wrong why.Extra n ≡ measuredOf (values.whole stop x)
-whole-extra stop (right t m) r n e h = let i : m ≡ n = cc in rw (i, ne-eqb n stop h)
-whole-extra stop (wrong x p) r n e h = cc
-
-whole-wrong : (stop : ℕ) (x : Reading) (e : Refusal) (p : ℕ) → measuredOf x ≡ Wrong e p → Wrong e p ≡ measuredOf (values.whole stop x)
-whole-wrong stop (right t m) e p h = cc
-whole-wrong stop (wrong x q) e p h = cc
 
 module _ (s : List ℕ) (depth : ℕ) (m : Measured) (read : m ≡ measuredOf (value (depth + 1) s 0 0 (length s))) where
   level : measuredOf (value (depth + 1) s 0 0 (length s)) ≡ measuredOf (value (suc depth) s 0 0 (length s))

@@ -3,8 +3,9 @@ ghost use mathlib.Core.Path.{_≡_};
 ghost use Prim.Native.Nat.{_+_, _≤_, _<_};
 ghost use lib.ListN.{length};
 ghost use Rattle.rows.specs.Table.{limit};
-ghost use Rattle.format.specs.declared.head.Children.the-variants.{Growing};
-ghost use Rattle.format.specs.Value.{kindOf, childCount, childrenOf, child, run, held, declaring, inForeign, framed, value};
+ghost use Rattle.rows.specs.Kinds.{holderOwn};
+ghost use Rattle.format.specs.declared.head.Children.the-variants.{Entries};
+ghost use Rattle.format.specs.Value.{kindOf, childCount, childrenOf, child, run, held, declaring, whole, inForeign, framed, value};
 ghost use Rattle.measure.specs.Measured.{measuredOf, measuredRun};
 use crate::key::measure_key;
 use crate::measured::Measured;
@@ -58,7 +59,7 @@ fn measure_hold(
     count: usize,
 ) -> Measured
     requires { ⌜ (0 < at) × (at ≤ stop) × (stop ≤ length (now s)) × (count ≤ limit) ⌝ }
-    ensures { λ r. ⌜ r ≡ measuredOf (held (kindOf holder) count (run (value levels (now (s .entry))) (childrenOf holder) (now (s .entry)) around 0 (childCount holder count) at stop)) ⌝ }
+    ensures { λ r. ⌜ r ≡ measuredOf (held (holderOwn (kindOf holder) count) (run (value levels (now (s .entry))) (childrenOf holder) (now (s .entry)) around 0 (childCount holder count) at stop)) ⌝ }
 {
     let n = holder.children(count);
     let m = measure_children(s, at, stop, levels, around, holder.reading(), n);
@@ -74,9 +75,9 @@ fn measure_hold(
 // A declaration's entries stand at `at`, and its value behind them.
 fn measure_declared(s: &[u8], at: usize, stop: usize, levels: usize, count: usize) -> Measured
     requires { ⌜ (0 < at) × (at ≤ stop) × (stop ≤ length (now s)) ⌝ }
-    ensures { λ r. ⌜ r ≡ measuredOf (declaring count (run (value levels (now (s .entry))) Growing (now (s .entry)) 0 0 count at stop) (value levels (now (s .entry))) stop) ⌝ }
+    ensures { λ r. ⌜ r ≡ measuredOf (declaring count (run (value levels (now (s .entry))) Entries (now (s .entry)) 0 0 count at stop) (value levels (now (s .entry))) stop) ⌝ }
 {
-    let m = measure_children(s, at, stop, levels, 0, Children::Growing, count);
+    let m = measure_children(s, at, stop, levels, 0, Children::Entries, count);
     match m {
         Measured::Right { rows, next } => {
             let v = measure_value(s, next, stop, levels, count);
@@ -98,7 +99,7 @@ fn measure_declared(s: &[u8], at: usize, stop: usize, levels: usize, count: usiz
 // A foreign body of `size` bytes stands at `place`: right or damaged, it is read once.
 fn measure_framed(s: &[u8], place: usize, size: usize, levels: usize, around: usize) -> Measured
     requires { ⌜ (0 < place) × (place + size ≤ length (now s)) ⌝ }
-    ensures { λ r. ⌜ r ≡ measuredOf (framed place size (value levels (now (s .entry)) (inForeign around) place (place + size))) ⌝ }
+    ensures { λ r. ⌜ r ≡ measuredOf (framed place size (whole (place + size) (value levels (now (s .entry)) (inForeign around) place (place + size)))) ⌝ }
 {
     let end = place + size;
     let inside = format::in_foreign(around);

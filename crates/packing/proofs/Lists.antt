@@ -6,8 +6,8 @@ use lib.ListN.{length}
 use lib.Seq.{sets}
 use borrow.Author.Tests.{le-leb, lt-leb}
 use Rattle.wide.specs.declared.wide.Wide.{Wide}
-use Rattle.wide.specs.declared.answer.Read.{Read}
-use Rattle.wide.specs.Answer.{readNumber, readValue, readUsed}
+use Rattle.variable.specs.declared.answer.Read.{Read}
+use Rattle.variable.specs.Answer.{readNumber, readValue, readUsed}
 use Rattle.payload.specs.declared.part.Part.{Part}
 use Rattle.resolve.specs.declared.resolved.Resolved.{Resolved}
 use Rattle.resolve.specs.Resolve.{resolvedNumber, resolvedRow, resolvedBound, resolvedMoves}

@@ -3,8 +3,8 @@ use mathlib.Core.Path.{_≡_}
 use Prim.Native.Nat.{ℕ, _+_, _*_, _/_, _%_, _^_, _≤_, _<_}
 use native.Mathlib.Omega.{arith}
 use borrow.Author.Tests.{le-leb, lt-leb}
-use Rattle.wide.specs.declared.answer.Written.{Written as Coded}
-use Rattle.wide.specs.Answer.{writtenNumber as codedNumber, writtenBeside as codedBeside}
+use Rattle.variable.specs.declared.answer.Written.{Written as Coded}
+use Rattle.variable.specs.Answer.{writtenNumber as codedNumber, writtenBeside as codedBeside}
 use Rattle.rows.specs.Table.{limit}
 use Rattle.format.specs.declared.answer.Answer.{Answer}
 use Rattle.format.specs.Answer.{answerNumber, answerBeside}

@@ -2,8 +2,8 @@
 use mathlib.Core.Path.{_≡_}
 use mathlib.Core.List.{List}
 use Prim.Native.Nat.{ℕ}
-use Rattle.wide.specs.declared.answer.Read.{Read}
-use Rattle.wide.specs.declared.answer.Written.{Written as Coded}
+use Rattle.variable.specs.declared.answer.Read.{Read}
+use Rattle.variable.specs.declared.answer.Written.{Written as Coded}
 use Rattle.format.specs.declared.answer.Answer.{Answer}
 use Rattle.checker.specs.declared.checked.Checked.{Checked}
 use Rattle.writer.specs.declared.written.Written.{Written}

@@ -4,11 +4,11 @@ use Prim.Native.Nat.{ℕ, _+_, _*_, _^_, _≤_, _<_}
 use native.Mathlib.Omega.{arith}
 use mir.Syntax.{w32, w64}
 use mir.Val.{Fits}
-use Rattle.wide.specs.declared.answer.Read.{Read}
-use Rattle.wide.specs.declared.answer.Read.the-variants.{Got, Short}
-use Rattle.wide.specs.declared.answer.Written.{Written as Coded}
-use Rattle.wide.specs.declared.answer.Written.the-variants as codes
-use Rattle.wide.specs.Answer.{readNumber, writtenNumber as codedNumber}
+use Rattle.variable.specs.declared.answer.Read.{Read}
+use Rattle.variable.specs.declared.answer.Read.the-variants.{Got, Short}
+use Rattle.variable.specs.declared.answer.Written.{Written as Coded}
+use Rattle.variable.specs.declared.answer.Written.the-variants as codes
+use Rattle.variable.specs.Answer.{readNumber, writtenNumber as codedNumber}
 use Rattle.rows.specs.Table.{limit}
 use Rattle.format.specs.declared.answer.Answer.{Answer}
 use Rattle.format.specs.declared.answer.Answer.the-variants.{Accepted, TooLong, Refused, Full}

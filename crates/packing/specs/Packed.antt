@@ -5,9 +5,9 @@ use mathlib.Core.List.{List, [], _∷_}
 use lib.ListN.{length}
 use lib.Seq.{sets}
 use lib.Dec.{leb}
-use Rattle.wide.specs.declared.answer.Read.{Read}
-use Rattle.wide.specs.declared.answer.Written.{Written as Coded}
-use Rattle.wide.specs.Answer.{readNumber, readValue, readUsed, writtenNumber as codedNumber, writtenBeside as codedBeside}
+use Rattle.variable.specs.declared.answer.Read.{Read}
+use Rattle.variable.specs.declared.answer.Written.{Written as Coded}
+use Rattle.variable.specs.Answer.{readNumber, readValue, readUsed, writtenNumber as codedNumber, writtenBeside as codedBeside}
 use Rattle.rows.specs.Table.{limit}
 use Rattle.format.specs.declared.answer.Answer.{Answer}
 use Rattle.format.specs.Answer.{answerNumber, answerBeside}

@@ -3,7 +3,7 @@ mod pack;
 
 ghost use mathlib.Core.Path.{_≡_};
 ghost use Prim.Native.Nat.{_^_, _≤_, _<_};
-ghost use Rattle.wide.specs.Answer.{readUsed, writtenBeside as codedBeside};
+ghost use Rattle.variable.specs.Answer.{readUsed, writtenBeside as codedBeside};
 ghost use Rattle.rows.specs.Table.{limit};
 ghost use Rattle.format.specs.Answer.{answerBeside};
 ghost use Rattle.checker.specs.Checked.{checkedBeside};
@@ -37,7 +37,7 @@ pub fn written(a: writer::Written) -> u64
 }
 
 // What writing a variable integer answered.
-pub fn coded(a: wide::Written) -> u64
+pub fn coded(a: variable::Written) -> u64
     requires { ⌜ codedBeside a < 2 ^ 56 ⌝ }
     ensures { λ r. ⌜ r ≡ packedCoded a ⌝ }
 {
@@ -86,7 +86,7 @@ pub fn part(out: &mut [u32], a: payload::Part) -> u64
 }
 
 // What reading a variable integer answered: its four words into the lent list, the bytes used beside the number.
-pub fn read(out: &mut [u32], a: wide::Read) -> u64
+pub fn read(out: &mut [u32], a: variable::Read) -> u64
     requires { ⌜ readUsed a < 2 ^ 56 ⌝ }
     ensures { λ r. ⌜ r ≡ packedRead a (now (out .entry)) ⌝ }
     ensures { λ _. ⌜ now (out .exit) ≡ listAfter (readWords a) (now (out .entry)) ⌝ }

@@ -4,7 +4,7 @@ ghost use lib.ListN.{length};
 ghost use Rattle.wide.specs.Words.{valueOf, words};
 ghost use Rattle.wide.specs.Family.{form};
 ghost use Rattle.wide.specs.Members.{signed, unsigned};
-ghost use Rattle.wide.specs.Answer.{readOf, writtenOf, outputOf};
+ghost use Rattle.variable.specs.Answer.{readOf, writtenOf, outputOf};
 ghost use Rattle.format.specs.Answer.{depthLimit, answer, tableAfter};
 ghost use Rattle.checker.specs.Checked.{checked};
 ghost use Rattle.writer.specs.Written.{written, outputAfter};
@@ -102,7 +102,7 @@ pub extern "C" fn panxidell_read_unsigned(data: &[u8], out: &mut [u32]) -> u64
     ensures { λ r. ⌜ r ≡ packedRead (readOf unsigned (now («data» .entry))) (now (out .entry)) ⌝ }
     ensures { λ _. ⌜ now (out .exit) ≡ listAfter (readWords (readOf unsigned (now («data» .entry)))) (now (out .entry)) ⌝ }
 {
-    packing::read(out, wide::read_unsigned(data))
+    packing::read(out, variable::read_unsigned(data))
 }
 
 // The signed variable integer at the front of `data`.
@@ -111,7 +111,7 @@ pub extern "C" fn panxidell_read_signed(data: &[u8], out: &mut [u32]) -> u64
     ensures { λ r. ⌜ r ≡ packedRead (readOf signed (now («data» .entry))) (now (out .entry)) ⌝ }
     ensures { λ _. ⌜ now (out .exit) ≡ listAfter (readWords (readOf signed (now («data» .entry)))) (now (out .entry)) ⌝ }
 {
-    packing::read(out, wide::read_signed(data))
+    packing::read(out, variable::read_signed(data))
 }
 
 // Four words as an unsigned variable integer, shortest, at the front of `out`.
@@ -126,7 +126,7 @@ pub extern "C" fn panxidell_write_unsigned(
     ensures { λ r. ⌜ r ≡ packedCoded (writtenOf (form unsigned (valueOf (words w0 w1 w2 w3))) (length (now (out .entry)))) ⌝ }
     ensures { λ _. ⌜ now (out .exit) ≡ outputOf (form unsigned (valueOf (words w0 w1 w2 w3))) (now (out .entry)) ⌝ }
 {
-    packing::coded(wide::write_unsigned(out, Wide { w0, w1, w2, w3 }))
+    packing::coded(variable::write_unsigned(out, Wide { w0, w1, w2, w3 }))
 }
 
 // Four words as a signed variable integer, shortest, at the front of `out`.
@@ -135,5 +135,5 @@ pub extern "C" fn panxidell_write_signed(out: &mut [u8], w0: u32, w1: u32, w2: u
     ensures { λ r. ⌜ r ≡ packedCoded (writtenOf (form signed (valueOf (words w0 w1 w2 w3))) (length (now (out .entry)))) ⌝ }
     ensures { λ _. ⌜ now (out .exit) ≡ outputOf (form signed (valueOf (words w0 w1 w2 w3))) (now (out .entry)) ⌝ }
 {
-    packing::coded(wide::write_signed(out, Wide { w0, w1, w2, w3 }))
+    packing::coded(variable::write_signed(out, Wide { w0, w1, w2, w3 }))
 }

@@ -13,8 +13,9 @@ use Rattle.wide.specs.Family.{form}
 use Rattle.wide.specs.Members.{integer, textLength, binaryLength, keyLength, referenceNumber, declarationCount, foreignLength}
 use Rattle.format.specs.declared.head.Holder.{Holder}
 use Rattle.rows.specs.declared.row.Row.{Row}
+use Rattle.rows.specs.Table.{ownOf}
 use Rattle.rules.specs.declared.kind.Kind.{Kind}
-use Rattle.rules.specs.declared.kind.Kind.the-variants.{Constant, Small, Signed, Unsigned, Float, Text, Holds, Binary, Char, Reference, Declaration, Whole, Damaged, Other}
+use Rattle.rules.specs.declared.kind.Kind.the-variants.{Constant, Small, Signed, Unsigned, Float, Text, Holds, Binary, Char, Reference, Declaration, Whole, Damaged, Key, Unknown}
 use Rattle.rules.specs.Shape.{named}
 use Rattle.rules.proofs.Says.{Names, names}
 use Rattle.encode.specs.Encode.{floatMarker, holderCount, headFor}
@@ -26,21 +27,25 @@ use Rattle.plan.proofs.Plans.{formed-plan}
 pub count-head : (holder h : Holder) (n : ℕ) (p : Plan) → holder ≡ h → Plans p (form (holderCount h) n) → Plans p (form (holderCount holder) n)
 count-head holder h n p e = subst (λ (x : Holder). Plans p (form (holderCount x) n)) (sym e)
 
-module _ (w : Row) (k : Kind) (e : k ≡ named (w .kind) (w .w2)) where
+module _ (w : Row) (k : Kind) (e : k ≡ named (ownOf w)) where
   pub constant-low : k ≡ Constant → 1 ≤ w .kind
-  constant-low q = subst (λ (K : Kind). Names K (w .kind)) (sym e ∙ q) (names (w .kind) (w .w2)) .0
+  constant-low q = subst (λ (K : Kind). Names K (w .kind)) (sym e ∙ q) (names (ownOf w)) .0
 
   pub constant-byte : k ≡ Constant → Fits w8 (w .kind - 1)
-  constant-byte q = omega (arith, subst (λ (K : Kind). Names K (w .kind)) (sym e ∙ q) (names (w .kind) (w .w2)) .1)
+  constant-byte q = omega (arith, subst (λ (K : Kind). Names K (w .kind)) (sym e ∙ q) (names (ownOf w)) .1)
 
   module _ (size : ℕ) (p : Plan) where
-    as-head : (K : Kind) (bytes : List ℕ) → k ≡ K → bytes ≡ headFor (w .kind) (w .w0) (w .w1) (w .w2) (w .w3) size K → Plans p bytes → Plans p (ownHead w size)
+    as-head : (K : Kind) (bytes : List ℕ) → k ≡ K → bytes ≡ headFor (ownOf w) size K → Plans p bytes → Plans p (ownHead w size)
     unfolding ownHead
-    as-head K bytes q r h = subst (Plans p) (r ∙ ap (headFor (w .kind) (w .w0) (w .w1) (w .w2) (w .w3) size) (sym q ∙ e)) h
+    as-head K bytes q r h = subst (Plans p) (r ∙ ap (headFor (ownOf w) size) (sym q ∙ e)) h
 
     pub constant-head : k ≡ Constant → Plans p ((w .kind - 1) ∷ []) → Plans p (ownHead w size)
     unfolding headFor
     constant-head q h = as-head Constant _ q refl h
+
+    pub unknown-head : k ≡ Unknown → Plans p (0x0e ∷ []) → Plans p (ownHead w size)
+    unfolding headFor
+    unknown-head q h = as-head Unknown _ q refl h
 
     pub float-head : k ≡ Float → (b : ℕ) → b ≡ floatMarker (w .w1) → Plans p (b ∷ []) → Plans p (ownHead w size)
     unfolding headFor
@@ -100,6 +105,6 @@ module _ (w : Row) (k : Kind) (e : k ≡ named (w .kind) (w .w2)) where
       unfolding headFor
       damaged-head q h = as-head Damaged _ q (ap (form foreignLength) r) h
 
-      pub key-head : k ≡ Other → Plans p (form keyLength n) → Plans p (ownHead w size)
+      pub key-head : k ≡ Key → Plans p (form keyLength n) → Plans p (ownHead w size)
       unfolding headFor
-      key-head q h = as-head Other _ q (ap (form keyLength) r) h
+      key-head q h = as-head Key _ q (ap (form keyLength) r) h

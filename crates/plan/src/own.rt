@@ -31,7 +31,7 @@ fn count_head(holder: Holder, count: usize) -> Plan
 pub fn head_of(w: Row, size: usize) -> Plan
     ensures { λ r. ⌜ Plans r (ownHead w size) ⌝ }
 {
-    match rules::named(w.kind, w.w2) {
+    match rules::named(w) {
         Kind::Constant => alone((w.kind - 1) as u8),
         Kind::Small => formed(integer_form(words_of(w), true), words_of(w)),
         Kind::Signed => formed(integer_form(words_of(w), true), words_of(w)),
@@ -45,6 +45,7 @@ pub fn head_of(w: Row, size: usize) -> Plan
         Kind::Declaration => headed(0, 0, 0, 2, 13, 13, rows::number(w.w0)),
         Kind::Whole => headed(0, 0, 0, 2, 13, 0, size),
         Kind::Damaged => headed(0, 0, 0, 2, 13, 0, rows::number(w.w1)),
-        Kind::Other => headed(0, 0, 0, 0, 0, 0, rows::number(w.w1)),
+        Kind::Key => headed(0, 0, 0, 0, 0, 0, rows::number(w.w1)),
+        Kind::Unknown => alone(14),
     }
 }

@@ -28,7 +28,7 @@ use Rattle.measure.specs.declared.measured.Measured.the-variants as measured
 use Rattle.measure.specs.Measured.{measuredOf}
 use Rattle.lists.proofs.Zeros.{length-zeroed}
 use Rattle.registry.proofs.Walks.{based-plain, below-none}
-use Rattle.reader.specs.Ready.{placeIn, rowIn, Right, treeOf, nextOf, Ready, Open, Tried, Whole, notRead}
+use Rattle.reader.specs.Contracts.{placeIn, rowIn, Right, treeOf, nextOf, Ready, Open, Tried, Whole, notRead}
 use Rattle.reader.proofs.Whole.{zeros-alike, whole-ready, whole-did}
 
 module _ (depth : ℕ) (s table : List ℕ) where

@@ -11,12 +11,12 @@ use lib.Seq.{sets}
 use Rattle.rows.specs.Table.{wordsPerRow, lent, limit}
 use Rattle.rows.proofs.Rows.{lent-sets}
 use Rattle.format.specs.declared.head.Children.{Children}
-use Rattle.format.specs.declared.head.Children.the-variants.{Plain, Keyed, Growing}
+use Rattle.format.specs.declared.head.Children.the-variants.{Plain, Keyed, Entries}
 use Rattle.format.specs.Tree.{many, Tree, Trees, size, sizes}
 use Rattle.format.specs.Value.{Reading, right, wrong, Run, ran, broke, Reader, child, inForce, ahead, follow, run, value}
 use Rattle.format.specs.Layout.{isEntry, layout, grown}
 use Rattle.registry.specs.Registry.{walk, chain, Below, firstIn, Based}
-use Rattle.reader.specs.Ready.{behind, placeIn, rowIn, Right, treeOf, nextOf, Ran, treesOf, nextsOf, Ready, Did, Open, Tried, ReadyAll, DidAll, OpenAll, TriedAll}
+use Rattle.reader.specs.Contracts.{behind, placeIn, rowIn, Right, treeOf, nextOf, Ran, treesOf, nextsOf, Ready, Did, Open, Tried, ReadyAll, DidAll, OpenAll, TriedAll}
 use Rattle.registry.proofs.Walks.{chain-sets, below-sets, based-sets, based-plain}
 use Rattle.format.proofs.Layouts.{lay-more}
 use Rattle.format.proofs.Values.{ReadAt, RunAt, values-child}
@@ -45,7 +45,7 @@ stepped Plain table first k i row t registry room below linked = unmoved table f
 stepped Keyed table first k i row t registry room below linked =
     let p = unmoved table first k i row t registry below in
     record { force = p .force; below = p .below; linked = p .linked }
-stepped Growing table first k i row t registry room below linked =
+stepped Entries table first k i row t registry room below linked =
     record {
       force = chain-more table first i row t registry below (linked refl);
       below = below-more table first i row t registry below (linked refl);
@@ -148,7 +148,7 @@ based-next : (c : Children) (table : List ℕ) (row : ℕ) (words : List ℕ) (b
     → Based table base (inForce c k i) → Based (sets table (wordsPerRow * row) words) base (inForce c k (i + 1))
 based-next Plain table row words base k i w below b = based-sets table row words base k below b
 based-next Keyed table row words base k i w below b = based-sets table row words base k below b
-based-next Growing table row words base k i w below b = based-plain (sets table (wordsPerRow * row) words) base (i + 1) (w refl)
+based-next Entries table row words base k i w below b = based-plain (sets table (wordsPerRow * row) words) base (i + 1) (w refl)
 
 -- ---- a loop over n of them
 

@@ -1,47 +1,33 @@
 -- What a right reading is made of, by what stands at its position. Assumes nothing.
 use mathlib.Core.Path.{_≡_, refl, sym, ap, subst, _∙_}
 use mathlib.Core.Bool.{Bool, true, false}
-use Prim.Native.Nat.{ℕ, _+_, _<_}
-use lib.Dec.{ltb}
-use borrow.Author.Tests.{ltb-true, eq-eqb}
-use Rattle.rows.specs.Kinds.{kindForeign}
-use Rattle.format.specs.declared.refusal.Refusal.the-variants as why
-use Rattle.format.specs.Tree.{refer, hold, declare, none, more}
-use Rattle.format.specs.Value.{Reading, right, wrong, Run, ran, broke, Reader, ahead, follow, held, referred, closed, declaring, framedRight, framed}
-use Rattle.reader.specs.Ready.{Right, treeOf, nextOf, Ran, treesOf, nextsOf}
+use Prim.Native.Nat.{ℕ, _+_}
+use lib.Dec.{eqb}
+use borrow.Author.Tests.{eqb-true}
+use Rattle.rows.specs.Table.{Own}
+use Rattle.rows.specs.Kinds.{declarationOwn, foreignOwn}
+use Rattle.format.specs.Tree.{hold, declare, foreign, more}
+use Rattle.format.specs.Value.{Reading, right, wrong, Run, ran, broke, Reader, ahead, follow, held, closed, declaring, ended, whole, framed}
+use Rattle.reader.specs.Contracts.{Right, treeOf, nextOf, Ran, treesOf, nextsOf}
 
 -- ---- a value position, by its head
 
-pub record Held (kind count : ℕ) (Q : Run) : Type 0 where
+pub record Held (o : Own) (Q : Run) : Type 0 where
   pub good : Ran Q
-  pub is : treeOf (held kind count Q) ≡ hold kind count (treesOf Q)
-  pub ends : nextOf (held kind count Q) ≡ nextsOf Q
+  pub is : treeOf (held o Q) ≡ hold o (treesOf Q)
+  pub ends : nextOf (held o Q) ≡ nextsOf Q
 
-pub held-view : (kind count : ℕ) (Q : Run) → Right (held kind count Q) → Held kind count Q
+pub held-view : (o : Own) (Q : Run) → Right (held o Q) → Held o Q
 unfolding Right treeOf nextOf Ran treesOf nextsOf
-held-view kind count (ran ts next) h = record { good = tt; is = refl; ends = refl }
-held-view kind count (broke e place) h = absurd h
-
--- ---- a reference
-
-pub record Referred (n k at place : ℕ) : Type 0 where
-  pub known : n < k
-  pub is : referred (ltb n k) n at place ≡ right (refer n) place
-
-pub refer-view : (n k at place : ℕ) → Right (referred (ltb n k) n at place) → Referred n k at place
-unfolding Right
-refer-view n k at place h = go (ltb n k) refl h
-  where
-    go : (b : Bool) → ltb n k ≡ b → Right (referred b n at place) → Referred n k at place
-    go true e good = record { known = ltb-true n k e; is = ap (λ (t : Bool). referred t n at place) e }
-    go false e good = absurd good
+held-view o (ran ts next) h = record { good = tt; is = refl; ends = refl }
+held-view o (broke e place) h = absurd h
 
 -- ---- a declaration, its entries and its value
 
 pub record Declared (n : ℕ) (Q : Run) (R : Reader) (stop : ℕ) : Type 0 where
   pub good : Ran Q
   pub own : Right (R n (nextsOf Q) stop)
-  pub is : treeOf (declaring n Q R stop) ≡ declare n (treesOf Q) (treeOf (R n (nextsOf Q) stop))
+  pub is : treeOf (declaring n Q R stop) ≡ declare (declarationOwn n) (treesOf Q) (treeOf (R n (nextsOf Q) stop))
   pub ends : nextOf (declaring n Q R stop) ≡ nextOf (R n (nextsOf Q) stop)
 
 pub declare-view : (n : ℕ) (Q : Run) (R : Reader) (stop : ℕ) → Right (declaring n Q R stop) → Declared n Q R stop
@@ -53,19 +39,29 @@ declare-view n (ran es place) R stop h = go (R n place stop) refl h
         record {
           good = tt;
           own = subst Right (sym e) tt;
-          is = ap (λ (p : Reading). treeOf (closed n es p)) e ∙ ap (λ (p : Reading). declare n es (treeOf p)) (sym e);
+          is = ap (λ (p : Reading). treeOf (closed n es p)) e ∙ ap (λ (p : Reading). declare (declarationOwn n) es (treeOf p)) (sym e);
           ends = ap (λ (p : Reading). nextOf (closed n es p)) e ∙ ap nextOf (sym e);
         }
     go (wrong why at) e good = absurd good
 declare-view n (broke e place) R stop h = absurd h
 
--- ---- a foreign body: a whole right document, or damaged
+-- ---- a foreign body that is a whole right document
 
-pub framed-whole : (place size : ℕ) (R : Reading) → Right R → nextOf R ≡ place + size
-    → framed place size R ≡ right (hold kindForeign 0 (more (treeOf R) none)) (place + size)
+pub record Framed (place n : ℕ) (R : Reading) : Type 0 where
+  pub good : Right R
+  pub ends : nextOf R ≡ place + n
+  pub is : framed place n (whole (place + n) R) ≡ right (foreign foreignOwn (treeOf R)) (place + n)
+
+pub framed-view : (place n : ℕ) (R : Reading) → Right (whole (place + n) R) → Framed place n R
 unfolding Right treeOf nextOf
-framed-whole place size (right t next) good e = ap (λ (b : Bool). framedRight b t place size) (eq-eqb next (place + size) e)
-framed-whole place size (wrong why at) good e = absurd good
+framed-view place n (right t next) h = go (eqb next (place + n)) refl h
+  where
+    go : (b : Bool) → eqb next (place + n) ≡ b → Right (ended b t next) → Framed place n (right t next)
+    go true e good = record { good = tt; ends = eqb-true next (place + n) e; is = ap (λ (b : Bool). framed place n (ended b t next)) e }
+    go false e good = absurd good
+framed-view place n (wrong why at) h = absurd h
+
+-- ---- positions in a row
 
 pub record Followed (P : Reading) (F : ℕ → Run) : Type 0 where
   pub good : Right P

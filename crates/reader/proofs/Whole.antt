@@ -14,7 +14,7 @@ use Rattle.format.specs.Tree.{size}
 use Rattle.format.specs.Value.{Reading}
 use Rattle.format.specs.Layout.{layout}
 use Rattle.registry.specs.Registry.{chain}
-use Rattle.reader.specs.Ready.{Right, treeOf, Ready, Did}
+use Rattle.reader.specs.Contracts.{Right, treeOf, Ready, Did}
 use Rattle.registry.proofs.Walks.{below-none}
 use Rattle.format.proofs.Layouts.{length-layout}
 

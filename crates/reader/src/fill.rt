@@ -1,13 +1,13 @@
 // Filling a table, the shape of measuring: rows are laid as they are met, and where one is wrong or has no room the answer is 0, and what
 // stands in the table means nothing. The registry in force is the base of its entries and how many they are.
-ghost use mathlib.Core.Path.{_≡_};
 ghost use Prim.Native.Nat.{_+_, _≤_, _<_};
 ghost use lib.ListN.{length};
 ghost use Rattle.rows.specs.Table.{lent, limit};
-ghost use Rattle.format.specs.declared.head.Children.the-variants.{Growing};
-ghost use Rattle.format.specs.Value.{kindOf, childCount, childrenOf, inForce, child, run, held, declaring, inForeign, framed, value};
+ghost use Rattle.rows.specs.Kinds.{holderOwn};
+ghost use Rattle.format.specs.declared.head.Children.the-variants.{Entries};
+ghost use Rattle.format.specs.Value.{kindOf, childCount, childrenOf, inForce, child, run, held, declaring, whole, inForeign, framed, value};
 ghost use Rattle.registry.specs.Registry.{firstIn};
-ghost use Rattle.reader.specs.Ready.{Right, nextOf, Open, Tried, OpenAll, TriedAll};
+ghost use Rattle.reader.specs.Contracts.{Right, Open, Tried, OpenAll, TriedAll};
 use crate::filled::filled;
 use crate::filled::place_in;
 use crate::filled::row_in;
@@ -111,7 +111,7 @@ fn fill_hold(
 ) -> usize
     requires { ⌜ Open (now table) row base around at ⌝ }
     requires { ⌜ (row < at) × (row < lent (now table)) × (at ≤ stop) × (stop ≤ length (now s)) × (length (now s) ≤ limit) × (count ≤ limit) ⌝ }
-    ensures { λ r. ⌜ Tried (held (kindOf holder) count (run (value levels (now (s .entry))) (childrenOf holder) (now (s .entry)) around 0 (childCount holder count) at stop)) (now (table .entry)) row (firstIn base) around (now (table .exit)) r ⌝ }
+    ensures { λ r. ⌜ Tried (held (holderOwn (kindOf holder) count) (run (value levels (now (s .entry))) (childrenOf holder) (now (s .entry)) around 0 (childCount holder count) at stop)) (now (table .entry)) row (firstIn base) around (now (table .exit)) r ⌝ }
 {
     let n = holder.children(count);
     let c = holder.reading();
@@ -138,7 +138,7 @@ fn fill_declared(
 ) -> usize
     requires { ⌜ Open (now table) row base around at ⌝ }
     requires { ⌜ (row < at) × (row < lent (now table)) × (at ≤ stop) × (stop ≤ length (now s)) × (length (now s) ≤ limit) × (count ≤ limit) ⌝ }
-    ensures { λ r. ⌜ Tried (declaring count (run (value levels (now (s .entry))) Growing (now (s .entry)) 0 0 count at stop) (value levels (now (s .entry))) stop) (now (table .entry)) row (firstIn base) around (now (table .exit)) r ⌝ }
+    ensures { λ r. ⌜ Tried (declaring count (run (value levels (now (s .entry))) Entries (now (s .entry)) 0 0 count at stop) (value levels (now (s .entry))) stop) (now (table .entry)) row (firstIn base) around (now (table .exit)) r ⌝ }
 {
     let under = row + 1;
     let es = fill_children(
@@ -150,7 +150,7 @@ fn fill_declared(
         under,
         under,
         0,
-        Children::Growing,
+        Children::Entries,
         count,
     );
     if es == 0 {
@@ -181,7 +181,7 @@ fn fill_foreign(
 ) -> usize
     requires { ⌜ Open (now table) row base around place ⌝ }
     requires { ⌜ (row < place) × (row < lent (now table)) × (place + size ≤ length (now s)) × (length (now s) ≤ limit) ⌝ }
-    ensures { λ r. ⌜ Tried (framed place size (value levels (now (s .entry)) (inForeign around) place (place + size))) (now (table .entry)) row (firstIn base) around (now (table .exit)) r ⌝ }
+    ensures { λ r. ⌜ Tried (framed place size (whole (place + size) (value levels (now (s .entry)) (inForeign around) place (place + size)))) (now (table .entry)) row (firstIn base) around (now (table .exit)) r ⌝ }
 {
     let end = place + size;
     let inside = format::in_foreign(around);
@@ -209,14 +209,14 @@ fn fill_right(
     around: usize,
 ) -> usize
     requires { ⌜ Open (now table) row base around place ⌝ }
-    requires { ⌜ Right (value levels (now s) (inForeign around) place (place + size)) × (nextOf (value levels (now s) (inForeign around) place (place + size)) ≡ place + size) ⌝ }
+    requires { ⌜ Right (whole (place + size) (value levels (now s) (inForeign around) place (place + size))) ⌝ }
     requires { ⌜ (row < place) × (row < lent (now table)) × (place + size ≤ length (now s)) × (length (now s) ≤ limit) ⌝ }
-    ensures { λ r. ⌜ Tried (framed place size (value levels (now (s .entry)) (inForeign around) place (place + size))) (now (table .entry)) row (firstIn base) around (now (table .exit)) r ⌝ }
+    ensures { λ r. ⌜ Tried (framed place size (whole (place + size) (value levels (now (s .entry)) (inForeign around) place (place + size)))) (now (table .entry)) row (firstIn base) around (now (table .exit)) r ⌝ }
 {
     let inside = format::in_foreign(around);
     let f = fill_value(table, s, place, place + size, levels, row + 1, base, inside);
     if f == 0 {
-        return 0;
+        return 0; // the table ran full: the body is not damaged
     }
     let end = row_in(f);
     rows::lay(table, row, Row::foreign(end));

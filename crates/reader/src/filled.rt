@@ -3,7 +3,7 @@
 ghost use mathlib.Core.Path.{_≡_};
 ghost use Prim.Native.Nat.{_≤_};
 ghost use Rattle.rows.specs.Table.{limit};
-ghost use Rattle.reader.specs.Ready.{behind, placeIn, rowIn};
+ghost use Rattle.reader.specs.Contracts.{behind, placeIn, rowIn};
 
 // That number.
 pub fn filled(next: usize, row: usize) -> usize

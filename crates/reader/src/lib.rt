@@ -5,7 +5,7 @@ ghost use lib.ListN.{length};
 ghost use Rattle.rows.specs.Table.{limit};
 ghost use Rattle.format.specs.Value.{document};
 ghost use Rattle.format.specs.Answer.{depthLimit, answer, tableAfter};
-ghost use Rattle.reader.specs.Ready.{Whole, notRead};
+ghost use Rattle.reader.specs.Contracts.{Whole, notRead};
 
 mod fill;
 mod filled;
@@ -71,5 +71,5 @@ pub fn read(data: &[u8], table: &mut [u32]) -> Answer
     ensures { λ r. ⌜ r ≡ answer depthLimit (now («data» .entry)) (now (table .entry)) ⌝ }
     ensures { λ _. ⌜ now (table .exit) ≡ tableAfter depthLimit (now («data» .entry)) (now (table .entry)) ⌝ }
 {
-    read_within(data, table, 32)
+    read_within(data, table, format::DEPTH_LIMIT)
 }

@@ -6,10 +6,10 @@ use native.Mathlib.Numerals.{add-one}
 use native.Mathlib.Omega.{arith}
 use native.Mathlib.Decide.{decLt}
 use mathlib.Core.List.{List, [], _∷_, _++_}
-use lib.ListN.{length, getD, length-append, List·getD-append}
+use lib.ListN.{length, getD, take, length-append, List·getD-append}
 use lib.Dec.{eqb}
 use borrow.Author.Tests.{eq-eqb, eqb-true, ne-eqb}
-use lib.Seq.{sets, getD-at}
+use lib.Seq.{sets, getD-at, take-all}
 use Rattle.rows.specs.declared.row.Row.{Row}
 use Rattle.rows.specs.Table.{wordsPerRow, rowAt, lent}
 use Rattle.rows.proofs.Rows.{row-sets-behind}
@@ -47,6 +47,23 @@ length-chain table first zero = refl
 length-chain table first (suc n) =
     let h = length-chain table first n in
     length-append (chain table first n) (walk table first n ∷ []) ∙ omega arith
+
+take-front : (n : ℕ) (xs ys : List ℕ) → n ≤ length xs → take n (xs ++ ys) ≡ take n xs
+take-front zero xs ys h = refl
+take-front (suc n) [] ys h = absurd (omega arith)
+take-front (suc n) (x ∷ xs) ys h = ap (λ (l : List ℕ). x ∷ l) (take-front n xs ys (omega arith))
+
+-- the first m of them are so many of the list
+pub chain-fewer : (table : List ℕ) (first n m : ℕ) → m ≤ n → take m (chain table first n) ≡ chain table first m
+unfolding chain
+chain-fewer table first zero m h = let z : m ≡ 0 = omega arith in rw z
+chain-fewer table first (suc n) m h = go (chain-fewer table first n m) (decLt n m)
+  where
+    go : (m ≤ n → take m (chain table first n) ≡ chain table first m) → Dec (n < m) → take m (chain table first n ++ (walk table first n ∷ [])) ≡ chain table first m
+    go again (yes lt) =
+        let e : m ≡ suc n = omega arith in
+        rw e (take-all (suc n) (chain table first (suc n)) (omega (arith, length-chain table first (suc n))))
+    go again (no ge) = take-front m (chain table first n) (walk table first n ∷ []) (omega (arith, length-chain table first n)) ∙ again (omega arith)
 
 -- the list has at n the row that n ends lead to
 pub chain-at : (table : List ℕ) (first k n : ℕ) → n < k → getD (chain table first k) n 0 ≡ walk table first n

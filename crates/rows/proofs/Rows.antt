@@ -6,13 +6,14 @@ use native.Mathlib.Nat.{add-zero, zero-add}
 use native.Mathlib.Numerals.{add-one, add-two, add-three, add-four, add-five}
 use native.Mathlib.Omega.{arith, ne-cases}
 use mathlib.Core.List.{List, _++_}
+use borrow.Author.Tests.{lt-ltb, le-ltb}
 use lib.ListN.{length, getD, drop, replicate, List·getD-append}
 use lib.Seq.{sets, length-sets, getD-drop, set-getD}
 use Rattle.lists.specs.Zeroed.{zeroed}
 use Rattle.lists.proofs.Sets.{sets-append, sets-comm, sets-join, sets-over, getD-sets-before, getD-sets-behind, drop-sets-at}
 use Rattle.lists.proofs.Zeros.{length-zeroed, zeroed-front}
 use Rattle.rows.specs.declared.row.Row.{Row}
-use Rattle.rows.specs.Table.{wordsPerRow, wordsOf, wordAt, rowAt, lent}
+use Rattle.rows.specs.Table.{wordsPerRow, wordsOf, wordAt, rowAt, lent, zeros, rowOrZeros}
 
 -- ---- a row and its words
 
@@ -154,3 +155,12 @@ lent-sets table i vs = rw length-sets
 
 pub lent-zeroed : (from : ℕ) (table : List ℕ) → lent (zeroed from table) ≡ lent table
 lent-zeroed from table = rw length-zeroed
+
+-- a row by any number, as the code tells whether it is lent
+pub row-where-lent : (table : List ℕ) (row l : ℕ) (r : Row) → l ≡ lent table → row < l → r ≡ rowAt table row → r ≡ rowOrZeros table row
+unfolding rowOrZeros
+row-where-lent table row l r is h e = e ∙ rw (lt-ltb row (lent table) (omega arith))
+
+pub zeros-where-not : (table : List ℕ) (row l : ℕ) → l ≡ lent table → l ≤ row → zeros ≡ rowOrZeros table row
+unfolding rowOrZeros
+zeros-where-not table row l is h = rw (le-ltb row (lent table) (omega arith))

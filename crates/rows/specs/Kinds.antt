@@ -1,6 +1,7 @@
--- The kinds of rows, and the row of each. Definitions only.
+-- The kinds of rows, and what a row of each says itself. Definitions only.
 use Prim.Native.Nat.{ℕ, _+_}
 use Rattle.rows.specs.declared.row.Row.{Row}
+use Rattle.rows.specs.Table.{Own, rowOf}
 
 -- "Row kinds, with the numbers that every part uses"
 abbrev pub kindFalse : ℕ
@@ -54,42 +55,43 @@ kindForeign = 16
 abbrev pub kindKey : ℕ
 kindKey = 17
 
--- "a leaf ends at its row + 1"
-abbrev pub leafRow : ℕ → ℕ → ℕ → ℕ → ℕ → ℕ → Row
-leafRow kind row w0 w1 w2 w3 = record { kind = kind; end = row + 1; w0 = w0; w1 = w1; w2 = w2; w3 = w3 }
+-- ---- what a row of each kind says itself
 
--- "End is the row number after all the row's children"; "9 array, 10 record, 11 map: w0 count of elements or entries"
-abbrev pub holderRow : ℕ → ℕ → ℕ → Row
-holderRow kind end count = record { kind = kind; end = end; w0 = count; w1 = 0; w2 = 0; w3 = 0 }
+abbrev pub own : ℕ → ℕ → ℕ → ℕ → ℕ → Own
+own kind w0 w1 w2 w3 = record { kind = kind; w0 = w0; w1 = w1; w2 = w2; w3 = w3 }
 
 -- "1 false, 2 true, 3 none"
-abbrev pub constantRow : ℕ → ℕ → Row
-constantRow kind row = leafRow kind row 0 0 0 0
-
--- "4 small, 5 signed, 6 unsigned integer: w0..w3: 128 bits, low word first; two's complement for 4 and 5"
-abbrev pub integerRow : ℕ → ℕ → ℕ → ℕ → ℕ → ℕ → Row
-integerRow kind row w0 w1 w2 w3 = leafRow kind row w0 w1 w2 w3
+abbrev pub constantOwn : ℕ → Own
+constantOwn kind = own kind 0 0 0 0
 
 -- "7 float, 8 text, 12 binary, 17 key: w0 place in the data, w1 size"
-abbrev pub spanRow : ℕ → ℕ → ℕ → ℕ → Row
-spanRow kind row place size = leafRow kind row place size 0 0
+abbrev pub spanOwn : ℕ → ℕ → ℕ → Own
+spanOwn kind place size = own kind place size 0 0
+
+-- "9 array, 10 record, 11 map: w0 count of elements or entries"
+abbrev pub holderOwn : ℕ → ℕ → Own
+holderOwn kind count = own kind count 0 0 0
 
 -- "13 char: w0 codepoint"
-abbrev pub charRow : ℕ → ℕ → Row
-charRow row codepoint = leafRow kindChar row codepoint 0 0 0
+abbrev pub charOwn : ℕ → Own
+charOwn codepoint = own kindChar codepoint 0 0 0
 
 -- "14 reference: w0 number, w1 row of that entry"
-abbrev pub referenceRow : ℕ → ℕ → ℕ → Row
-referenceRow row number entry = leafRow kindReference row number entry 0 0
+abbrev pub referenceOwn : ℕ → ℕ → Own
+referenceOwn number entry = own kindReference number entry 0 0
 
 -- "15 declaration: w0 entries; then the value"
-abbrev pub declarationRow : ℕ → ℕ → Row
-declarationRow end entries = holderRow kindDeclaration end entries
+abbrev pub declarationOwn : ℕ → Own
+declarationOwn entries = holderOwn kindDeclaration entries
 
 -- "16 foreign, right: all 0, one child"
-abbrev pub foreignRow : ℕ → Row
-foreignRow end = holderRow kindForeign end 0
+abbrev pub foreignOwn : Own
+foreignOwn = holderOwn kindForeign 0
 
 -- "16 foreign, damaged: w0 place, w1 size, w2 verdict (2..10), no child"
-abbrev pub damagedRow : ℕ → ℕ → ℕ → ℕ → Row
-damagedRow row place size verdict = leafRow kindForeign row place size verdict 0
+abbrev pub damagedOwn : ℕ → ℕ → ℕ → Own
+damagedOwn place size verdict = own kindForeign place size verdict 0
+
+-- "a leaf ends at its row + 1"
+abbrev pub leafRow : Own → ℕ → Row
+leafRow o row = rowOf o (row + 1)

@@ -7,7 +7,7 @@ pub use row::Row;
 ghost use mathlib.Core.Path.{_≡_};
 ghost use Prim.Native.Nat.{_*_, _<_};
 ghost use lib.Seq.{sets};
-ghost use Rattle.rows.specs.Table.{wordsPerRow, wordsOf, wordAt, rowAt, lent};
+ghost use Rattle.rows.specs.Table.{wordsPerRow, wordsOf, wordAt, rowAt, lent, rowOrZeros};
 
 // A number of a row, to reckon and to index with.
 pub fn number(w: u32) -> usize
@@ -57,6 +57,23 @@ pub fn row_at(table: &[u32], row: usize) -> Row
         w1: word_at(table, row, 3),
         w2: word_at(table, row, 4),
         w3: word_at(table, row, 5),
+    }
+}
+
+// For any row number: six zeros, which are no row, where the table does not lend it.
+pub fn row_or_zeros(table: &[u32], row: usize) -> Row
+    ensures { λ r. ⌜ r ≡ rowOrZeros (now (table .entry)) row ⌝ }
+{
+    if row < lent(table) {
+        return row_at(table, row);
+    }
+    Row {
+        kind: 0,
+        end: 0,
+        w0: 0,
+        w1: 0,
+        w2: 0,
+        w3: 0,
     }
 }
 

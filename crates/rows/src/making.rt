@@ -3,9 +3,9 @@ use crate::row::Row;
 ghost use mathlib.Core.Path.{_≡_};
 ghost use Prim.Native.Nat.{_≤_, _<_};
 ghost use lib.Dec.{leb};
-ghost use Rattle.rows.specs.Table.{limit};
+ghost use Rattle.rows.specs.Table.{limit, rowOf};
 ghost use Rattle.rows.specs.Kinds.{kindFalse, kindTrue, kindNone, kindSmall, kindSigned, kindUnsigned, kindFloat, kindText, kindBinary, kindKey, kindArray, kindRecord, kindMap};
-ghost use Rattle.rows.specs.Kinds.{leafRow, holderRow, constantRow, integerRow, spanRow, charRow, referenceRow, declarationRow, foreignRow, damagedRow};
+ghost use Rattle.rows.specs.Kinds.{own, constantOwn, spanOwn, holderOwn, charOwn, referenceOwn, declarationOwn, foreignOwn, damagedOwn, leafRow};
 
 impl Row {
     // Asked of the bytes of a document and of the rows of a table.
@@ -18,7 +18,7 @@ impl Row {
     // Any row with no child, by its kind.
     pub fn leaf(kind: u32, row: usize, w0: u32, w1: u32, w2: u32, w3: u32) -> Row
         requires { ⌜ row < limit ⌝ }
-        ensures { λ r. ⌜ r ≡ leafRow kind row w0 w1 w2 w3 ⌝ }
+        ensures { λ r. ⌜ r ≡ leafRow (own kind w0 w1 w2 w3) row ⌝ }
     {
         Row {
             kind,
@@ -33,7 +33,7 @@ impl Row {
     // Any row with children, by its kind.
     pub fn holder(kind: u32, end: usize, count: usize) -> Row
         requires { ⌜ (end ≤ limit) × (count ≤ limit) ⌝ }
-        ensures { λ r. ⌜ r ≡ holderRow kind end count ⌝ }
+        ensures { λ r. ⌜ r ≡ rowOf (holderOwn kind count) end ⌝ }
     {
         Row {
             kind,
@@ -48,7 +48,7 @@ impl Row {
     // Any row with a payload, by its kind.
     pub fn span(kind: u32, row: usize, place: usize, size: usize) -> Row
         requires { ⌜ (row < limit) × (place ≤ limit) × (size ≤ limit) ⌝ }
-        ensures { λ r. ⌜ r ≡ spanRow kind row place size ⌝ }
+        ensures { λ r. ⌜ r ≡ leafRow (spanOwn kind place size) row ⌝ }
     {
         Row::leaf(kind, row, place as u32, size as u32, 0, 0)
     }
@@ -56,7 +56,7 @@ impl Row {
     // False; the word itself belongs to the language.
     pub fn no(row: usize) -> Row
         requires { ⌜ row < limit ⌝ }
-        ensures { λ r. ⌜ r ≡ constantRow kindFalse row ⌝ }
+        ensures { λ r. ⌜ r ≡ leafRow (constantOwn kindFalse) row ⌝ }
     {
         Row::leaf(Row::FALSE, row, 0, 0, 0, 0)
     }
@@ -64,7 +64,7 @@ impl Row {
     // True, likewise.
     pub fn yes(row: usize) -> Row
         requires { ⌜ row < limit ⌝ }
-        ensures { λ r. ⌜ r ≡ constantRow kindTrue row ⌝ }
+        ensures { λ r. ⌜ r ≡ leafRow (constantOwn kindTrue) row ⌝ }
     {
         Row::leaf(Row::TRUE, row, 0, 0, 0, 0)
     }
@@ -72,7 +72,7 @@ impl Row {
     // None.
     pub fn none(row: usize) -> Row
         requires { ⌜ row < limit ⌝ }
-        ensures { λ r. ⌜ r ≡ constantRow kindNone row ⌝ }
+        ensures { λ r. ⌜ r ≡ leafRow (constantOwn kindNone) row ⌝ }
     {
         Row::leaf(Row::NONE, row, 0, 0, 0, 0)
     }
@@ -80,7 +80,7 @@ impl Row {
     // An integer in -31..64; the four words are its 128 bits, the low word first.
     pub fn small(row: usize, w0: u32, w1: u32, w2: u32, w3: u32) -> Row
         requires { ⌜ row < limit ⌝ }
-        ensures { λ r. ⌜ r ≡ integerRow kindSmall row w0 w1 w2 w3 ⌝ }
+        ensures { λ r. ⌜ r ≡ leafRow (own kindSmall w0 w1 w2 w3) row ⌝ }
     {
         Row::leaf(Row::SMALL, row, w0, w1, w2, w3)
     }
@@ -88,7 +88,7 @@ impl Row {
     // Any other integer of a signed form, in two's complement.
     pub fn signed(row: usize, w0: u32, w1: u32, w2: u32, w3: u32) -> Row
         requires { ⌜ row < limit ⌝ }
-        ensures { λ r. ⌜ r ≡ integerRow kindSigned row w0 w1 w2 w3 ⌝ }
+        ensures { λ r. ⌜ r ≡ leafRow (own kindSigned w0 w1 w2 w3) row ⌝ }
     {
         Row::leaf(Row::SIGNED, row, w0, w1, w2, w3)
     }
@@ -96,7 +96,7 @@ impl Row {
     // Any other integer of an unsigned form.
     pub fn unsigned(row: usize, w0: u32, w1: u32, w2: u32, w3: u32) -> Row
         requires { ⌜ row < limit ⌝ }
-        ensures { λ r. ⌜ r ≡ integerRow kindUnsigned row w0 w1 w2 w3 ⌝ }
+        ensures { λ r. ⌜ r ≡ leafRow (own kindUnsigned w0 w1 w2 w3) row ⌝ }
     {
         Row::leaf(Row::UNSIGNED, row, w0, w1, w2, w3)
     }
@@ -104,7 +104,7 @@ impl Row {
     // The bits of a float.
     pub fn float(row: usize, place: usize, size: usize) -> Row
         requires { ⌜ (row < limit) × (place ≤ limit) × (size ≤ limit) ⌝ }
-        ensures { λ r. ⌜ r ≡ spanRow kindFloat row place size ⌝ }
+        ensures { λ r. ⌜ r ≡ leafRow (spanOwn kindFloat place size) row ⌝ }
     {
         Row::span(Row::FLOAT, row, place, size)
     }
@@ -112,7 +112,7 @@ impl Row {
     // The bytes of a text.
     pub fn text(row: usize, place: usize, size: usize) -> Row
         requires { ⌜ (row < limit) × (place ≤ limit) × (size ≤ limit) ⌝ }
-        ensures { λ r. ⌜ r ≡ spanRow kindText row place size ⌝ }
+        ensures { λ r. ⌜ r ≡ leafRow (spanOwn kindText place size) row ⌝ }
     {
         Row::span(Row::TEXT, row, place, size)
     }
@@ -120,7 +120,7 @@ impl Row {
     // The bytes of a binary.
     pub fn binary(row: usize, place: usize, size: usize) -> Row
         requires { ⌜ (row < limit) × (place ≤ limit) × (size ≤ limit) ⌝ }
-        ensures { λ r. ⌜ r ≡ spanRow kindBinary row place size ⌝ }
+        ensures { λ r. ⌜ r ≡ leafRow (spanOwn kindBinary place size) row ⌝ }
     {
         Row::span(Row::BINARY, row, place, size)
     }
@@ -128,7 +128,7 @@ impl Row {
     // The bytes of a record's key.
     pub fn key(row: usize, place: usize, size: usize) -> Row
         requires { ⌜ (row < limit) × (place ≤ limit) × (size ≤ limit) ⌝ }
-        ensures { λ r. ⌜ r ≡ spanRow kindKey row place size ⌝ }
+        ensures { λ r. ⌜ r ≡ leafRow (spanOwn kindKey place size) row ⌝ }
     {
         Row::span(Row::KEY, row, place, size)
     }
@@ -136,7 +136,7 @@ impl Row {
     // count elements.
     pub fn array(end: usize, count: usize) -> Row
         requires { ⌜ (end ≤ limit) × (count ≤ limit) ⌝ }
-        ensures { λ r. ⌜ r ≡ holderRow kindArray end count ⌝ }
+        ensures { λ r. ⌜ r ≡ rowOf (holderOwn kindArray count) end ⌝ }
     {
         Row::holder(Row::ARRAY, end, count)
     }
@@ -144,7 +144,7 @@ impl Row {
     // count entries, a key and a value each.
     pub fn record(end: usize, count: usize) -> Row
         requires { ⌜ (end ≤ limit) × (count ≤ limit) ⌝ }
-        ensures { λ r. ⌜ r ≡ holderRow kindRecord end count ⌝ }
+        ensures { λ r. ⌜ r ≡ rowOf (holderOwn kindRecord count) end ⌝ }
     {
         Row::holder(Row::RECORD, end, count)
     }
@@ -152,7 +152,7 @@ impl Row {
     // count entries, two values each.
     pub fn map(end: usize, count: usize) -> Row
         requires { ⌜ (end ≤ limit) × (count ≤ limit) ⌝ }
-        ensures { λ r. ⌜ r ≡ holderRow kindMap end count ⌝ }
+        ensures { λ r. ⌜ r ≡ rowOf (holderOwn kindMap count) end ⌝ }
     {
         Row::holder(Row::MAP, end, count)
     }
@@ -160,7 +160,7 @@ impl Row {
     // A codepoint.
     pub fn char(row: usize, codepoint: u32) -> Row
         requires { ⌜ row < limit ⌝ }
-        ensures { λ r. ⌜ r ≡ charRow row codepoint ⌝ }
+        ensures { λ r. ⌜ r ≡ leafRow (charOwn codepoint) row ⌝ }
     {
         Row::leaf(Row::CHAR, row, codepoint, 0, 0, 0)
     }
@@ -168,7 +168,7 @@ impl Row {
     // The number of an entry in force, and that entry's row.
     pub fn reference(row: usize, number: usize, entry: usize) -> Row
         requires { ⌜ (row < limit) × (number ≤ limit) × (entry ≤ limit) ⌝ }
-        ensures { λ r. ⌜ r ≡ referenceRow row number entry ⌝ }
+        ensures { λ r. ⌜ r ≡ leafRow (referenceOwn number entry) row ⌝ }
     {
         Row::leaf(Row::REFERENCE, row, number as u32, entry as u32, 0, 0)
     }
@@ -176,7 +176,7 @@ impl Row {
     // The entries are its children, and behind them its value.
     pub fn declaration(end: usize, entries: usize) -> Row
         requires { ⌜ (end ≤ limit) × (entries ≤ limit) ⌝ }
-        ensures { λ r. ⌜ r ≡ declarationRow end entries ⌝ }
+        ensures { λ r. ⌜ r ≡ rowOf (declarationOwn entries) end ⌝ }
     {
         Row::holder(Row::DECLARATION, end, entries)
     }
@@ -184,7 +184,7 @@ impl Row {
     // A right foreign document: its child is the document's value.
     pub fn foreign(end: usize) -> Row
         requires { ⌜ end ≤ limit ⌝ }
-        ensures { λ r. ⌜ r ≡ foreignRow end ⌝ }
+        ensures { λ r. ⌜ r ≡ rowOf foreignOwn end ⌝ }
     {
         Row::holder(Row::FOREIGN, end, 0)
     }
@@ -192,7 +192,7 @@ impl Row {
     // A damaged foreign document: its bytes, and the refusal that reading them gives.
     pub fn damaged(row: usize, place: usize, size: usize, verdict: u32) -> Row
         requires { ⌜ (row < limit) × (place ≤ limit) × (size ≤ limit) ⌝ }
-        ensures { λ r. ⌜ r ≡ damagedRow row place size verdict ⌝ }
+        ensures { λ r. ⌜ r ≡ leafRow (damagedOwn place size verdict) row ⌝ }
     {
         Row::leaf(Row::FOREIGN, row, place as u32, size as u32, verdict, 0)
     }

@@ -42,7 +42,7 @@ found n bad q = absurd (let z : _≡_ {A = ℕ} 0 1 = cc in omega arith)
 module _ (depth : ℕ) (table : List ℕ) (n : ℕ) (s : List ℕ) where
   -- the tests of a whole table, one behind the other
   abbrev E : Bool
-  E = endsWith n (grow (suc depth) table n s [] 0)
+  E = endsWith n (grow table n s (suc depth) [] 0)
 
   abbrev D : Bool
   D = leb (length s) limit && E
@@ -70,8 +70,8 @@ module _ (depth : ℕ) (table : List ℕ) (n : ℕ) (s : List ℕ) where
     room : n ≤ lent table
     room = leb-true n (lent table) (and-first (leb n (lent table)) D c)
 
-    grown : Found n (grow (suc depth) table n s [] 0)
-    grown = found n (grow (suc depth) table n s [] 0) (and-second (leb (length s) limit) E d)
+    grown : Found n (grow table n s (suc depth) [] 0)
+    grown = found n (grow table n s (suc depth) [] 0) (and-second (leb (length s) limit) E d)
 
     stood : Grew (Fine s (suc depth) 0) table n [] 0 (grown .tree) n
     stood = subst (λ (g : Growth). Sound (Fine s (suc depth) 0) table n [] 0 g) (grown .is) (grow-sound table n s room (suc depth) [] 0)
@@ -101,7 +101,7 @@ module _ (depth : ℕ) (table : List ℕ) (n : ℕ) (s : List ℕ) where
     pub laid-out : table ≡ layout t 0 [] ++ drop (wordsPerRow * n) table
     laid-out = sym (take-append-drop (wordsPerRow * n) table) ∙ ap (λ (x : List ℕ). x ++ drop (wordsPerRow * n) table) (st .words)
 
-    pub stands-grows : grow (suc depth) table n s [] 0 ≡ grew t n
+    pub stands-grows : grow table n s (suc depth) [] 0 ≡ grew t n
     stands-grows =
         regrow table n s t (suc depth) 0 [] (drop (wordsPerRow * n) table) (st .fine) laid-out (omega (arith, st .rows))
         ∙ ap (grew t) (zero-add (size t) ∙ st .rows)

@@ -10,22 +10,22 @@ use lib.Dec.{ltb, eqb}
 use borrow.Author.Tests.{ltb-true, eqb-true}
 use Rattle.wide.proofs.Families.{cond-case}
 use Rattle.rows.specs.declared.row.Row.{Row}
-use Rattle.rows.specs.Table.{wordsPerRow, wordsOf, rowAt, lent}
-use Rattle.rows.specs.Kinds.{kindKey, leafRow, holderRow, referenceRow, declarationRow}
+use Rattle.rows.specs.Table.{wordsPerRow, Own, rowOf, ownOf, wordsOf, rowAt, lent}
 use Rattle.rows.proofs.Rows.{drop-row}
+use Rattle.format.specs.declared.head.Holder.{Holder}
 use Rattle.format.specs.declared.head.Children.{Children}
-use Rattle.format.specs.declared.head.Children.the-variants.{Plain, Growing}
-use Rattle.format.specs.Tree.{Tree, refer, Trees, none, more, many, size, sizes}
+use Rattle.format.specs.declared.head.Children.the-variants.{Entries}
+use Rattle.format.specs.Tree.{Tree, leaf, refer, hold, declare, foreign, damaged, Trees, none, more, many, size, sizes}
 use Rattle.format.specs.Value.{Reading, right, wrong, childCount, childrenOf, inForeign, value, whole, isKey}
-use Rattle.format.specs.Layout.{isEntry, layout, layouts, grown, entries}
-use Rattle.format.proofs.Layouts.{no-entry}
+use Rattle.format.specs.Layout.{isEntry, layout, layouts, grown, entries, inBody, aimed}
+use Rattle.format.proofs.Layouts.{no-entry, length-body}
 use Rattle.rules.specs.declared.shape.Shape.{Shape}
 use Rattle.rules.specs.declared.shape.Shape.the-variants.{Bad, Leaf, Refer, Hold, Declare, Whole, Damaged}
-use Rattle.rules.specs.Shape.{spelt, shapeOf}
-use Rattle.rules.specs.Grow.{Growth, grew, bad, Growths, grewAll, badAll, Grower, leafAt, endsAt, keyRow, growKey, item, before, follow, grows, held, closed, declared, damaged, referred, byShape, rowGrows, grow}
-use Rattle.rules.specs.Fine.{plain, damaged as spoilt, HoldFine, holder, foreign, KeyFine, Either, after, Fine, Fines}
+use Rattle.rules.specs.Shape.{shapeOf, keyFits}
+use Rattle.rules.specs.Grow.{Growth, grew, bad, Growths, grewAll, badAll, Grower, endsAt, before, andThen, pointing, overChildren, overValue, overEntries, overBody, judged, keyRow, growKey, item, grows, byShape, rowGrows, grow}
+use Rattle.rules.specs.Fine.{KeyFine, IfKey, after, Fine, Fines}
 use Rattle.rules.proofs.Levels.{down}
-use Rattle.rules.proofs.Says.{Says, says}
+use Rattle.rules.proofs.Says.{aimed-shape}
 use Rattle.lists.proofs.Tests.{and-first, and-second}
 use Rattle.format.specs.Refusal.{numberOf as refusalNumber}
 
@@ -79,50 +79,60 @@ length-entries (more t ts) row registry =
 pub glue : {D D₁ : List ℕ} (R R′ X D₂ : List ℕ) → D ≡ R ++ D₁ → R ≡ R′ → D₁ ≡ X ++ D₂ → D ≡ (R′ ++ X) ++ D₂
 glue R R′ X D₂ a e b = a ∙ ap₂ (λ (r d : List ℕ). r ++ d) e b ∙ sym (append-assoc R′ X D₂)
 
-words-same : (q r : Row) → q .kind ≡ r .kind → q .end ≡ r .end → q .w0 ≡ r .w0 → q .w1 ≡ r .w1 → q .w2 ≡ r .w2 → q .w3 ≡ r .w3 → wordsOf q ≡ wordsOf r
+-- a row's words, by its end and what it says itself
+own-words : (w : Row) (e : ℕ) → w .end ≡ e → wordsOf w ≡ wordsOf (rowOf (ownOf w) e)
 unfolding wordsOf
-words-same q r a b c d e f = cc
+own-words w e h = ap (λ (x : ℕ). w .kind ∷ x ∷ w .w0 ∷ w .w1 ∷ w .w2 ∷ w .w3 ∷ []) h
+
+-- a reference's, by its entry's row
+aimed-words : (w : Row) (e entry : ℕ) → w .end ≡ e → w .w1 ≡ entry → wordsOf w ≡ wordsOf (rowOf (aimed (ownOf w) entry) e)
+unfolding wordsOf
+aimed-words w e entry h k = ap₂ (λ (x y : ℕ). w .kind ∷ x ∷ w .w0 ∷ y ∷ w .w2 ∷ w .w3 ∷ []) h k
 
 module _ (table : List ℕ) (n : ℕ) (s : List ℕ) (room : n ≤ lent table) where
-  own-words : (row : ℕ) → row < n → drop (wordsPerRow * row) table ≡ wordsOf (rowAt table row) ++ drop (wordsPerRow * (row + 1)) table
-  own-words row h = drop-row table row (omega arith)
+  row-first : (row : ℕ) → row < n → drop (wordsPerRow * row) table ≡ wordsOf (rowAt table row) ++ drop (wordsPerRow * (row + 1)) table
+  row-first row h = drop-row table row (omega arith)
 
   ends-sound : (F : Tree → Type 0) (registry : List ℕ) (row : ℕ) (g : Growth) → Inner F table n registry row g → Sound F table n registry row (endsAt (rowAt table row .end) g)
   ends-sound F registry row (grew t e) f =
       cond-case (Sound F table n registry row) (eqb e (rowAt table row .end)) (grew t e) bad (λ q. f (sym (eqb-true e (rowAt table row .end) q))) (λ _. tt)
   ends-sound F registry row bad f = tt
 
-  -- one row
-  leaf-inner : (F : Tree → Type 0) (registry : List ℕ) (row : ℕ) → row < n → F (leafAt (rowAt table row)) → Inner F table n registry row (grew (leafAt (rowAt table row)) (row + 1))
-  unfolding layout size
-  leaf-inner F registry row h f e =
-      let w : Row = rowAt table row in
+  -- a tree of one row
+  one-inner : (F : Tree → Type 0) (registry : List ℕ) (row : ℕ) (t : Tree) → row < n → size t ≡ 1
+      → (rowAt table row .end ≡ row + 1 → wordsOf (rowAt table row) ≡ layout t row registry) → F t → Inner F table n registry row (grew t (row + 1))
+  one-inner F registry row t h z g f e =
       record {
-        past = refl;
+        past = omega arith;
         before = omega arith;
         within = omega arith;
         last = e;
-        words = own-words row h ∙ ap (λ (x : List ℕ). x ++ drop (wordsPerRow * (row + 1)) table) (words-same w (leafRow (w .kind) row (w .w0) (w .w1) (w .w2) (w .w3)) refl e refl refl refl refl);
+        words = row-first row h ∙ ap (λ (x : List ℕ). x ++ drop (wordsPerRow * (row + 1)) table) (g e);
         fine = f;
       }
+
+  leaf-inner : (F : Tree → Type 0) (registry : List ℕ) (row : ℕ) → row < n → F (leaf (ownOf (rowAt table row)))
+      → Inner F table n registry row (grew (leaf (ownOf (rowAt table row))) (row + 1))
+  unfolding layout size
+  leaf-inner F registry row h f = one-inner F registry row (leaf (ownOf (rowAt table row))) h refl (own-words (rowAt table row) (row + 1)) f
 
   pub key-sound : (registry : List ℕ) (row : ℕ) → Sound (KeyFine s) table n registry row (growKey table n s row)
   unfolding growKey KeyFine
   key-sound registry row =
       let w : Row = rowAt table row in
-      let T : Bool = eqb (w .kind) kindKey && spelt s (w .w0) (w .w1) (w .w2) (w .w3) in
-      cond-case (Sound (KeyFine s) table n registry row) (ltb row n) (keyRow s row w) bad
-      (λ h. ends-sound (KeyFine s) registry row (cond T (grew (leafAt w) (row + 1)) bad) (cond-case (Inner (KeyFine s) table n registry row) T (grew (leafAt w) (row + 1)) bad
-      (λ q. leaf-inner (KeyFine s) registry row (ltb-true row n h)
-      (eqb-true (w .kind) kindKey (and-first (eqb (w .kind) kindKey) (spelt s (w .w0) (w .w1) (w .w2) (w .w3)) q), and-second (eqb (w .kind) kindKey) (spelt s (w .w0) (w .w1) (w .w2) (w .w3)) q))
+      let T : Bool = keyFits s (ownOf w) in
+      cond-case (Sound (KeyFine s) table n registry row) (ltb row n) (keyRow table n s row w) bad
+      (λ h. ends-sound (KeyFine s) registry row (cond T (grew (leaf (ownOf w)) (row + 1)) bad)
+      (cond-case (Inner (KeyFine s) table n registry row) T (grew (leaf (ownOf w)) (row + 1)) bad
+      (λ q. leaf-inner (KeyFine s) registry row (ltb-true row n h) q)
       (λ _. tt)))
       (λ _. tt)
 
   module _ (d : ℕ) (G : Grower) (good : (registry : List ℕ) (row : ℕ) → Sound (Fine s d (length registry)) table n registry row (G registry row)) where
     abbrev pub ItemFine : Bool → List ℕ → Tree → Type 0
-    ItemFine key registry t = Either key (KeyFine s t) (Fine s d (length registry) t)
+    ItemFine key registry t = IfKey key (KeyFine s t) (Fine s d (length registry) t)
 
-    pub item-sound : (key : Bool) (registry : List ℕ) (row : ℕ) → Sound (ItemFine key registry) table n registry row (item key G table n s registry row)
+    pub item-sound : (key : Bool) (registry : List ℕ) (row : ℕ) → Sound (ItemFine key registry) table n registry row (item table n s key G registry row)
     unfolding item
     item-sound true registry row = key-sound registry row
     item-sound false registry row = good registry row
@@ -143,72 +153,64 @@ module _ (table : List ℕ) (n : ℕ) (s : List ℕ) (room : n ≤ lent table) w
           fines = (a .fine, subst (λ (k : ℕ). Fines s d c k (i + 1) ts) (length-grown (isEntry c) registry row) (b .fines));
         }
 
-    follow-sound : (c : Children) (i count : ℕ) (registry : List ℕ) (row : ℕ) (p : Growth) → Sound (ItemFine (isKey c i) registry) table n registry row p
+    then-sound : (c : Children) (i count : ℕ) (registry : List ℕ) (row : ℕ) (p : Growth) → Sound (ItemFine (isKey c i) registry) table n registry row p
         → (rest : ℕ → Growths) → ((m : ℕ) → m ≤ n → SoundAll s d c table n (grown (isEntry c) registry row) (i + 1) count m (rest m))
-        → SoundAll s d c table n registry i (suc count) row (follow p rest)
-    follow-sound c i count registry row bad a rest b = tt
-    follow-sound c i count registry row (grew t m) a rest b = before-sound c i count registry row t m a (rest m) (b m (a .within))
+        → SoundAll s d c table n registry i (suc count) row (andThen p rest)
+    then-sound c i count registry row bad a rest b = tt
+    then-sound c i count registry row (grew t m) a rest b = before-sound c i count registry row t m a (rest m) (b m (a .within))
 
-    pub all-sound : (c : Children) (i count : ℕ) (registry : List ℕ) (row : ℕ) → row ≤ n → SoundAll s d c table n registry i count row (grows G c table n s registry i count row)
+    pub all-sound : (c : Children) (i count : ℕ) (registry : List ℕ) (row : ℕ) → row ≤ n → SoundAll s d c table n registry i count row (grows table n s G c registry i count row)
     unfolding grows size layout many Fine
     all-sound c i zero registry row h = record { past = omega arith; within = h; words = refl; number = refl; fines = tt }
     all-sound c i (suc count) registry row h =
-        follow-sound c i count registry row (item (isKey c i) G table n s registry row) (item-sound (isKey c i) registry row) _
+        then-sound c i count registry row (item table n s (isKey c i) G registry row) (item-sound (isKey c i) registry row) _
         (λ m k. all-sound c (i + 1) count (grown (isEntry c) registry row) m k)
 
     module _ (registry : List ℕ) (row : ℕ) (h : row < n) where
       abbrev w : Row
       w = rowAt table row
 
-      abbrev sh : Shape
-      sh = shapeOf s (w .kind) (w .w0) (w .w1) (w .w2) (w .w3)
+      abbrev o : Own
+      o = ownOf w
 
       abbrev F : Tree → Type 0
       F = Fine s (suc d) (length registry)
 
-      told : (x : Shape) → sh ≡ x → Says s (w .kind) (w .w0) (w .w1) (w .w2) (w .w3) x
-      told x e = subst (Says s (w .kind) (w .w0) (w .w1) (w .w2) (w .w3)) e (says s (w .kind) (w .w0) (w .w1) (w .w2) (w .w3))
-
-      leaf-sound : sh ≡ Leaf → Inner F table n registry row (grew (leafAt w) (row + 1))
+      leaf-sound : shapeOf s o ≡ Leaf → Inner F table n registry row (grew (leaf o) (row + 1))
       unfolding Fine
-      leaf-sound e = leaf-inner F registry row h (omega arith, plain e)
+      leaf-sound e = leaf-inner F registry row h (omega arith, e)
 
-      damaged-sound : sh ≡ Damaged → (x : Reading) → whole (w .w0 + w .w1) (value d s (inForeign (length registry)) (w .w0) (w .w0 + w .w1)) ≡ x
-          → Inner F table n registry row (damaged row w x)
-      unfolding Fine
-      damaged-sound e (right t next) q = tt
-      damaged-sound e (wrong r place) q =
-          cond-case (Inner F table n registry row) (eqb (w .w2) (refusalNumber r)) (grew (leafAt w) (row + 1)) bad
-          (λ v. leaf-inner F registry row h (omega arith, spoilt e r place (rw (down d) q) (eqb-true (w .w2) (refusalNumber r) v)))
+      judged-sound : shapeOf s o ≡ Damaged → (x : Reading) → whole (o .w0 + o .w1) (value d s (inForeign (length registry)) (o .w0) (o .w0 + o .w1)) ≡ x
+          → Inner F table n registry row (judged row o x)
+      unfolding Fine layout size
+      judged-sound e (right t next) q = tt
+      judged-sound e (wrong r place) q =
+          cond-case (Inner F table n registry row) (eqb (o .w2) (refusalNumber r)) (grew (damaged o) (row + 1)) bad
+          (λ v. one-inner F registry row (damaged o) h refl (own-words w (row + 1))
+          (omega arith, e, record { why = r; place = place; reads = rw (down d) q; verdict = eqb-true (o .w2) (refusalNumber r) v }))
           (λ _. tt)
 
-      refer-sound : sh ≡ Refer → Inner F table n registry row (referred registry row w)
+      pointing-sound : shapeOf s o ≡ Refer → Inner F table n registry row (pointing registry row o)
       unfolding Fine layout size
-      refer-sound e =
-          let v : Says s (w .kind) (w .w0) (w .w1) (w .w2) (w .w3) Refer = told Refer e in
-          let A : Bool = ltb (w .w0) (length registry) in
-          let B : Bool = eqb (w .w1) (getD registry (w .w0) 0) in
-          cond-case (Inner F table n registry row) (A && B) (grew (refer (w .w0)) (row + 1)) bad
-          (λ q l.
-          record {
-            past = refl;
-            before = omega arith;
-            within = omega arith;
-            last = l;
-            words =
-                own-words row h
-                ∙ ap (λ (x : List ℕ). x ++ drop (wordsPerRow * (row + 1)) table)
-                (words-same w (referenceRow row (w .w0) (getD registry (w .w0) 0)) (v .0) l refl (eqb-true (w .w1) (getD registry (w .w0) 0) (and-second A B q)) (v .1) (v .2));
-            fine = (omega arith, ltb-true (w .w0) (length registry) (and-first A B q));
-          })
+      pointing-sound e =
+          let A : Bool = ltb (o .w0) (length registry) in
+          let B : Bool = eqb (o .w1) (getD registry (o .w0) 0) in
+          cond-case (Inner F table n registry row) (A && B) (grew (refer (aimed o 0)) (row + 1)) bad
+          (λ q. one-inner F registry row (refer (aimed o 0)) h refl
+          (λ l. aimed-words w (row + 1) (getD registry (o .w0) 0) l (eqb-true (o .w1) (getD registry (o .w0) 0) (and-second A B q)))
+          (omega arith, aimed-shape s o 0 e, refl, ltb-true (o .w0) (length registry) (and-first A B q)))
           (λ _. tt)
 
-      -- a row over its children, of a sort that its shape gives
-      hold-sound : (c : Children) (k′ : ℕ) → w .w1 ≡ 0 → w .w2 ≡ 0 → w .w3 ≡ 0 → k′ ≡ length registry → (count : ℕ) → HoldFine s (length registry) (w .kind) (w .w0) count c k′
-          → isEntry c ≡ false → (q : Growths) → SoundAll s d c table n registry 0 count (row + 1) q → Inner F table n registry row (held w q)
+      -- its row, and the words of its children behind it
+      over : (t : Tree) (e : ℕ) → e ≡ row + size t → (X : List ℕ) → drop (wordsPerRow * (row + 1)) table ≡ X ++ drop (wordsPerRow * e) table
+          → w .end ≡ e → drop (wordsPerRow * row) table ≡ (wordsOf (rowOf o (row + size t)) ++ X) ++ drop (wordsPerRow * e) table
+      over t e past X x l = glue (wordsOf w) (wordsOf (rowOf o (row + size t))) X (drop (wordsPerRow * e) table) (row-first row h) (own-words w (row + size t) (l ∙ past)) x
+
+      hold-sound : (x : Holder) → shapeOf s o ≡ Hold x → (q : Growths) → SoundAll s d (childrenOf x) table n registry 0 (childCount x (o .w0)) (row + 1) q
+          → Inner F table n registry row (overChildren o q)
       unfolding Fine layout size
-      hold-sound c k′ z1 z2 z3 kk count f plainly badAll b = tt
-      hold-sound c k′ z1 z2 z3 kk count f plainly (grewAll ts e) b = λ l.
+      hold-sound x y badAll b = tt
+      hold-sound x y (grewAll ts e) b = λ l.
           let past′ : e ≡ row + (1 + sizes ts) = omega (arith, b .past) in
           record {
             past = past′;
@@ -216,76 +218,77 @@ module _ (table : List ℕ) (n : ℕ) (s : List ℕ) (room : n ≤ lent table) w
             within = b .within;
             last = l;
             words =
-                glue (wordsOf w) (wordsOf (holderRow (w .kind) (row + (1 + sizes ts)) (w .w0))) (layouts ts false (row + 1) registry) (drop (wordsPerRow * e) table) (own-words row h)
-                (words-same w (holderRow (w .kind) (row + (1 + sizes ts)) (w .w0)) refl (l ∙ past′) refl z1 z2 z3)
-                (subst (λ (x : Bool). drop (wordsPerRow * (row + 1)) table ≡ layouts ts x (row + 1) registry ++ drop (wordsPerRow * e) table) plainly (b .words));
-            fine = (
-              omega arith,
-              (
-                c,
-                k′,
-                subst (λ (x : ℕ). HoldFine s (length registry) (w .kind) (w .w0) x c k′) (sym (b .number)) f,
-                subst (λ (x : ℕ). Fines s x c k′ 0 ts) (sym (down d)) (subst (λ (x : ℕ). Fines s d c x 0 ts) (sym kk) (b .fines)),
-              ),
-            );
+                over (hold o ts) e past′ (layouts ts false (row + 1) registry)
+                (subst (λ (z : Bool). drop (wordsPerRow * (row + 1)) table ≡ layouts ts z (row + 1) registry ++ drop (wordsPerRow * e) table) (no-entry x) (b .words)) l;
+            fine = (omega arith, (x, y, b .number, subst (λ (z : ℕ). Fines s z (childrenOf x) (length registry) 0 ts) (sym (down d)) (b .fines)));
           }
 
-      closed-sound : sh ≡ Declare → (es : Trees) (m : ℕ) → GrewAll s d Growing table n [] 0 (w .w0) (row + 1) es m → (p : Growth)
-          → Sound (Fine s d (length (entries es (row + 1) []))) table n (entries es (row + 1) []) m p → Inner F table n registry row (closed (w .w0) es p)
+      value-sound : shapeOf s o ≡ Declare → (es : Trees) (m : ℕ) → GrewAll s d Entries table n [] 0 (o .w0) (row + 1) es m → (p : Growth)
+          → Sound (Fine s d (length (entries es (row + 1) []))) table n (entries es (row + 1) []) m p → Inner F table n registry row (overValue o es p)
       unfolding Fine layout size
-      closed-sound y es m b bad g = tt
-      closed-sound y es m b (grew t e) g = λ l.
-          let v : Says s (w .kind) (w .w0) (w .w1) (w .w2) (w .w3) Declare = told Declare y in
+      value-sound y es m b bad g = tt
+      value-sound y es m b (grew t e) g = λ l.
           let A : List ℕ = entries es (row + 1) [] in
           let past′ : e ≡ row + (1 + (sizes es + size t)) = omega (arith, b .past, g .past) in
-          let k : length A ≡ w .w0 = length-entries es (row + 1) [] ∙ zero-add (many es) ∙ b .number in
+          let k : length A ≡ o .w0 = length-entries es (row + 1) [] ∙ zero-add (many es) ∙ b .number in
           record {
             past = past′;
             before = omega arith;
             within = g .within;
             last = l;
             words =
-                glue (wordsOf w) (wordsOf (declarationRow (row + (1 + (sizes es + size t))) (w .w0))) (layouts es true (row + 1) [] ++ layout t (row + 1 + sizes es) A) (drop (wordsPerRow * e) table) (own-words row h)
-                (words-same w (declarationRow (row + (1 + (sizes es + size t))) (w .w0)) (v .0) (l ∙ past′) refl (v .2 .no1) (v .2 .no2) (v .2 .no3))
+                over (declare o es t) e past′ (layouts es true (row + 1) [] ++ layout t (row + 1 + sizes es) A)
                 (glue (layouts es true (row + 1) []) (layouts es true (row + 1) []) (layout t (row + 1 + sizes es) A) (drop (wordsPerRow * e) table) (b .words) refl
-                (g .words ∙ ap (λ (x : ℕ). layout t x A ++ drop (wordsPerRow * e) table) (b .past)));
+                (g .words ∙ ap (λ (x : ℕ). layout t x A ++ drop (wordsPerRow * e) table) (b .past))) l;
             fine = (
               omega arith,
-              v .1,
+              y,
               b .number,
-              subst (λ (x : ℕ). Fines s x Growing 0 0 es) (sym (down d)) (b .fines),
-              subst (λ (x : ℕ). Fine s x (w .w0) t) (sym (down d)) (subst (λ (x : ℕ). Fine s d x t) k (g .fine)),
+              subst (λ (x : ℕ). Fines s x Entries 0 0 es) (sym (down d)) (b .fines),
+              subst (λ (x : ℕ). Fine s x (o .w0) t) (sym (down d)) (subst (λ (x : ℕ). Fine s d x t) k (g .fine)),
             );
           }
 
-      declared-sound : sh ≡ Declare → (q : Growths) → SoundAll s d Growing table n [] 0 (w .w0) (row + 1) q → Inner F table n registry row (declared G (w .w0) (row + 1) q)
-      declared-sound y badAll b = tt
-      declared-sound y (grewAll es m) b = closed-sound y es m b (G (entries es (row + 1) []) m) (good (entries es (row + 1) []) m)
+      entries-sound : shapeOf s o ≡ Declare → (q : Growths) → SoundAll s d Entries table n [] 0 (o .w0) (row + 1) q → Inner F table n registry row (overEntries G o (row + 1) q)
+      entries-sound y badAll b = tt
+      entries-sound y (grewAll es m) b = value-sound y es m b (G (entries es (row + 1) []) m) (good (entries es (row + 1) []) m)
 
-      shape-sound : (x : Shape) → sh ≡ x → Inner F table n registry row (byShape G d table n s registry row w x)
+      body-sound : shapeOf s o ≡ Whole → (p : Growth) → Sound (Fine s d (length (inBody registry))) table n (inBody registry) (row + 1) p → Inner F table n registry row (overBody o p)
+      unfolding Fine layout size
+      body-sound y bad g = tt
+      body-sound y (grew t e) g = λ l.
+          let past′ : e ≡ row + (1 + size t) = omega (arith, g .past) in
+          record {
+            past = past′;
+            before = omega arith;
+            within = g .within;
+            last = l;
+            words = over (foreign o t) e past′ (layout t (row + 1) (inBody registry)) (g .words) l;
+            fine = (
+              omega arith,
+              y,
+              subst (λ (x : ℕ). Fine s x (inForeign (length registry)) t) (sym (down d)) (subst (λ (x : ℕ). Fine s d x t) (length-body registry) (g .fine)),
+            );
+          }
+
+      shape-sound : (x : Shape) → shapeOf s o ≡ x → Inner F table n registry row (byShape table n s G d registry row o x)
       unfolding byShape
       shape-sound Bad e = tt
       shape-sound Leaf e = leaf-sound e
-      shape-sound Refer e = refer-sound e
+      shape-sound Refer e = pointing-sound e
       shape-sound (Hold x) e =
-          let v : Says s (w .kind) (w .w0) (w .w1) (w .w2) (w .w3) (Hold x) = told (Hold x) e in
-          let f : shapeOf s (w .kind) (w .w0) 0 0 0 ≡ Hold x = rw (v .no1, v .no2, v .no3) at e in
-          hold-sound (childrenOf x) (length registry) (v .no1) (v .no2) (v .no3) refl (childCount x (w .w0)) (holder x f refl refl refl) (no-entry x) (grows G (childrenOf x) table n s registry 0 (childCount x (w .w0)) (row + 1))
-          (all-sound (childrenOf x) 0 (childCount x (w .w0)) registry (row + 1) (omega arith))
-      shape-sound Declare e = declared-sound e (grows G Growing table n s [] 0 (w .w0) (row + 1)) (all-sound Growing 0 (w .w0) [] (row + 1) (omega arith))
-      shape-sound Whole e =
-          let v : Says s (w .kind) (w .w0) (w .w1) (w .w2) (w .w3) Whole = told Whole e in
-          let f : shapeOf s (w .kind) (w .w0) 0 0 0 ≡ Whole = rw (v .no1, v .no2, v .no3) at e in
-          hold-sound Plain (length registry) (v .no1) (v .no2) (v .no3) refl 1 (foreign f refl refl refl) refl (grows G Plain table n s registry 0 1 (row + 1)) (all-sound Plain 0 1 registry (row + 1) (omega arith))
-      shape-sound Damaged e = damaged-sound e (whole (w .w0 + w .w1) (value d s (inForeign (length registry)) (w .w0) (w .w0 + w .w1))) refl
+          hold-sound x e (grows table n s G (childrenOf x) registry 0 (childCount x (o .w0)) (row + 1)) (all-sound (childrenOf x) 0 (childCount x (o .w0)) registry (row + 1) (omega arith))
+      shape-sound Declare e = entries-sound e (grows table n s G Entries [] 0 (o .w0) (row + 1)) (all-sound Entries 0 (o .w0) [] (row + 1) (omega arith))
+      shape-sound Whole e = body-sound e (G (inBody registry) (row + 1)) (good (inBody registry) (row + 1))
+      shape-sound Damaged e = judged-sound e (whole (o .w0 + o .w1) (value d s (inForeign (length registry)) (o .w0) (o .w0 + o .w1))) refl
 
-  pub grow-sound : (d : ℕ) (registry : List ℕ) (row : ℕ) → Sound (Fine s d (length registry)) table n registry row (grow d table n s registry row)
+  pub grow-sound : (d : ℕ) (registry : List ℕ) (row : ℕ) → Sound (Fine s d (length registry)) table n registry row (grow table n s d registry row)
   unfolding grow
   grow-sound zero registry row = tt
   grow-sound (suc d) registry row =
       let w : Row = rowAt table row in
-      let x : Shape = shapeOf s (w .kind) (w .w0) (w .w1) (w .w2) (w .w3) in
-      cond-case (Sound (Fine s (suc d) (length registry)) table n registry row) (ltb row n) (rowGrows (grow d table n s) d table n s registry row w) bad
-      (λ h. ends-sound (Fine s (suc d) (length registry)) registry row (byShape (grow d table n s) d table n s registry row w x)
-      (shape-sound d (grow d table n s) (grow-sound d) registry row (ltb-true row n h) x refl))
+      let x : Shape = shapeOf s (ownOf w) in
+      cond-case (Sound (Fine s (suc d) (length registry)) table n registry row) (ltb row n) (rowGrows table n s (grow table n s d) d registry row w) bad
+      (λ h. ends-sound (Fine s (suc d) (length registry)) registry row (byShape table n s (grow table n s d) d registry row (ownOf w) x)
+      (shape-sound d (grow table n s d) (grow-sound d) registry row (ltb-true row n h) x refl))
       (λ _. tt)

@@ -12,6 +12,7 @@ use Rattle.wide.specs.Words.{valueOf, words}
 use Rattle.wide.specs.Family.{hasNumber}
 use Rattle.wide.specs.Members.{integer}
 use Rattle.text.specs.Check.{textOf, wellFormed}
+use Rattle.rows.specs.Table.{Own}
 use Rattle.format.specs.declared.head.Holder.{Holder}
 use Rattle.format.specs.Head.{codepoint}
 use Rattle.lists.proofs.Tests.{and-yes, and-second}
@@ -48,32 +49,33 @@ module _ (s : List ℕ) (w0 w1 w2 w3 : ℕ) where
 
 -- ---- an integer
 
-pub small-is : (signed b : Bool) (w : Wide) (w0 w1 w2 w3 : ℕ) → w ≡ words w0 w1 w2 w3 → b ≡ hasNumber (integer signed .direct) (valueOf w) → b ≡ isSmall signed w0 w1 w2 w3
-small-is signed b w w0 w1 w2 w3 e f = f ∙ ap (λ (x : Wide). hasNumber (integer signed .direct) (valueOf x)) e
+module _ (signed b : Bool) (w : Wide) (o : Own) (is : w ≡ words (o .w0) (o .w1) (o .w2) (o .w3)) (told : b ≡ hasNumber (integer signed .direct) (valueOf w)) where
+  pub small-is : b ≡ isSmall signed o
+  small-is = told ∙ ap (λ (x : Wide). hasNumber (integer signed .direct) (valueOf x)) is
 
-pub large-is : (signed b : Bool) (w : Wide) (w0 w1 w2 w3 : ℕ) → w ≡ words w0 w1 w2 w3 → b ≡ hasNumber (integer signed .direct) (valueOf w) → not b ≡ not (isSmall signed w0 w1 w2 w3)
-large-is signed b w w0 w1 w2 w3 e f = ap not (small-is signed b w w0 w1 w2 w3 e f)
+  pub large-is : not b ≡ not (isSmall signed o)
+  large-is = ap not small-is
 
 -- ---- a kind
 
-pub fits-as : (s : List ℕ) (w0 w1 w2 w3 : ℕ) (k x : Kind) (r : Bool) → k ≡ x → r ≡ fits s w0 w1 w2 w3 x → r ≡ fits s w0 w1 w2 w3 k
-fits-as s w0 w1 w2 w3 k x r e f = f ∙ ap (fits s w0 w1 w2 w3) (sym e)
+pub fits-as : (s : List ℕ) (o : Own) (k x : Kind) (r : Bool) → k ≡ x → r ≡ fits s o x → r ≡ fits s o k
+fits-as s o k x r e f = f ∙ ap (fits s o) (sym e)
 
 -- a char's codepoint, as a number to reckon with
-pub char-yes : (s : List ℕ) (w0 w1 w2 w3 n : ℕ) (k : Kind) (b r : Bool) → k ≡ Char → b ≡ blank 0 w1 w2 w3 → b ≡ true → n ≡ w0 → r ≡ codepoint n → r ≡ fits s w0 w1 w2 w3 k
+pub char-yes : (s : List ℕ) (o : Own) (n : ℕ) (k : Kind) (b r : Bool) → k ≡ Char → b ≡ blank 0 (o .w1) (o .w2) (o .w3) → b ≡ true → n ≡ o .w0 → r ≡ codepoint n → r ≡ fits s o k
 unfolding fits
-char-yes s w0 w1 w2 w3 n k b r e is h q f = fits-as s w0 w1 w2 w3 k Char r e (and-yes b (blank 0 w1 w2 w3) (codepoint w0) r is h (f ∙ ap codepoint q))
+char-yes s o n k b r e is h q f = fits-as s o k Char r e (and-yes b (blank 0 (o .w1) (o .w2) (o .w3)) (codepoint (o .w0)) r is h (f ∙ ap codepoint q))
 
 pub holder-shape : (k : Kind) (h : Holder) → k ≡ Holds h → shape.Hold h ≡ shapeFor k
 holder-shape k h e = ap shapeFor (sym e)
 
 -- ---- a row
 
-module _ (s : List ℕ) (kind w0 w1 w2 w3 : ℕ) (k : Kind) (names : k ≡ named kind w2) (b : Bool) (is : b ≡ fits s w0 w1 w2 w3 k) where
-  pub shape-yes : (r : Shape) → b ≡ true → r ≡ shapeFor k → r ≡ shapeOf s kind w0 w1 w2 w3
+module _ (s : List ℕ) (o : Own) (k : Kind) (names : k ≡ named o) (b : Bool) (is : b ≡ fits s o k) where
+  pub shape-yes : (r : Shape) → b ≡ true → r ≡ shapeFor k → r ≡ shapeOf s o
   unfolding shapeOf
   shape-yes r h e = rw (← names, ← is, h) e
 
-  pub shape-no : b ≡ false → shape.Bad ≡ shapeOf s kind w0 w1 w2 w3
+  pub shape-no : b ≡ false → shape.Bad ≡ shapeOf s o
   unfolding shapeOf
   shape-no h = rw (← names, ← is, h)

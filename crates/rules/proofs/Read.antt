@@ -19,9 +19,11 @@ use Rattle.wide.proofs.Sound.{sound-integers}
 use Rattle.text.specs.declared.answer.Text.{Text}
 use Rattle.text.specs.declared.answer.Text.the-variants.{WellFormed}
 use Rattle.text.specs.Check.{textOf}
-use Rattle.rows.specs.Kinds.{kindSmall, kindSigned, kindUnsigned, kindChar, kindForeign}
+use Rattle.rows.specs.Kinds.{kindSmall, kindSigned, kindUnsigned, constantOwn, spanOwn, holderOwn, charOwn, foreignOwn, damagedOwn}
 use Rattle.format.specs.declared.refusal.Refusal.{Refusal}
 use Rattle.format.specs.declared.refusal.Refusal.the-variants as why
+use Rattle.format.specs.declared.head.Spelling.{Spelling}
+use Rattle.format.specs.declared.head.Spelling.the-variants.{At, No}
 use Rattle.format.specs.declared.head.Content.{Content}
 use Rattle.format.specs.declared.head.Content.the-variants as holds
 use Rattle.format.specs.declared.head.Holder.{Holder}
@@ -29,23 +31,24 @@ use Rattle.format.specs.declared.head.Holder.the-variants.{Array, Record, Map}
 use Rattle.format.specs.declared.head.Head.{Head}
 use Rattle.format.specs.declared.head.Head.the-variants as stands
 use Rattle.format.specs.declared.head.Children.{Children}
-use Rattle.format.specs.declared.head.Children.the-variants.{Plain, Keyed, Growing}
-use Rattle.format.specs.Tree.{Tree, leaf, Trees, many}
+use Rattle.format.specs.declared.head.Children.the-variants.{Plain, Keyed, Entries}
+use Rattle.format.specs.Tree.{Tree, Trees, many}
 use Rattle.format.specs.Head.{codepoint, floatSizes, floatSize, headAt, keyAt}
-use Rattle.format.specs.Value.{Reading, right, wrong, Run, ran, broke, integerOf, leafOf, kindOf, childCount, childrenOf, keyed, inTurn, child, inForce, ahead, follow, run, held, referred, closed, declaring, framed, framedRight, inForeign, step, value, ended, whole, document, isKey}
+use Rattle.format.specs.Value.{Reading, right, wrong, Run, ran, broke, integerOwn, integerKind, leafOwn, kindOf, childCount, childrenOf, keyed, inTurn, child, inForce, ahead, follow, run, held, referred, closed, declaring, framed, inForeign, step, value, ended, whole, document, isKey}
 use Rattle.format.proofs.Values.{document-value}
 use Rattle.format.specs.Layout.{isEntry}
 use Rattle.format.proofs.Layouts.{around-force}
-use Rattle.format.proofs.Heads.{Payload, floating, written, plain as binary, ContentAt, KeyContent, KeyStood, Stood, head-stood, key-stood}
+use Rattle.format.proofs.Heads.{Payload, floating, written, plain as binary, ContentAt, Spelled, Stood, head-stood, key-spelled}
 use Rattle.rules.specs.declared.shape.Shape.the-variants.{Leaf, Hold, Whole, Damaged}
 use Rattle.rules.specs.Shape.{named, blank, inside, isSmall, oneOf, span, spelt, fits, shapeOf}
-use Rattle.rules.specs.Fine.{plain, damaged, holder, foreign, KeyFine, Either, after, Fine, Fines}
+use Rattle.rules.specs.Fine.{KeyFine, IfKey, after, Fine, Fines}
 use Rattle.rules.proofs.Levels.{down}
+use Rattle.rules.proofs.Says.{refer-shape, declare-shape}
 use Rattle.format.specs.Refusal.{numberOf as refusalNumber}
 
 -- ---- leaves
 
-constant-shape : (s : List ℕ) (kind : ℕ) → 1 ≤ kind → kind ≤ 3 → shapeOf s kind 0 0 0 0 ≡ Leaf
+constant-shape : (s : List ℕ) (kind : ℕ) → 1 ≤ kind → kind ≤ 3 → shapeOf s (constantOwn kind) ≡ Leaf
 unfolding shapeOf named fits blank
 constant-shape s zero l h = absurd (omega arith)
 constant-shape s (suc zero) l h = refl
@@ -54,8 +57,8 @@ constant-shape s (suc (suc (suc zero))) l h = refl
 constant-shape s (suc (suc (suc (suc k)))) l h = absurd (omega arith)
 
 -- the four words of n are in -31..64 where n is
-pub small-words : (n : ℕ) → hasNumber (integerSigned .direct) n ≡ true → isSmall true (wideOf n .w0) (wideOf n .w1) (wideOf n .w2) (wideOf n .w3) ≡ true
-small-words n e = has-wide (integerSigned .direct) n ∙ e
+pub small-words : (kind n : ℕ) → hasNumber (integerSigned .direct) n ≡ true → isSmall true (integerOwn kind (wideOf n)) ≡ true
+small-words kind n e = has-wide (integerSigned .direct) n ∙ e
 
 -- an unsigned number in 0..64 is in -31..64
 pub small-both : (m : ℕ) → m < wordsWhole → hasNumber (integerUnsigned .direct) m ≡ true → hasNumber (integerSigned .direct) m ≡ true
@@ -71,15 +74,15 @@ unfolding behind
 marker-has b l h = lt-ltb (behind 256 0x20 b) 96 (omega arith)
 
 module _ (s : List ℕ) where
-  shape-small : (n : ℕ) → isSmall true (wideOf n .w0) (wideOf n .w1) (wideOf n .w2) (wideOf n .w3) ≡ true → shapeOf s kindSmall (wideOf n .w0) (wideOf n .w1) (wideOf n .w2) (wideOf n .w3) ≡ Leaf
+  shape-small : (n : ℕ) → isSmall true (integerOwn kindSmall (wideOf n)) ≡ true → shapeOf s (integerOwn kindSmall (wideOf n)) ≡ Leaf
   unfolding shapeOf named fits
   shape-small n e = rw e
 
-  shape-signed : (n : ℕ) → isSmall true (wideOf n .w0) (wideOf n .w1) (wideOf n .w2) (wideOf n .w3) ≡ false → shapeOf s kindSigned (wideOf n .w0) (wideOf n .w1) (wideOf n .w2) (wideOf n .w3) ≡ Leaf
+  shape-signed : (n : ℕ) → isSmall true (integerOwn kindSigned (wideOf n)) ≡ false → shapeOf s (integerOwn kindSigned (wideOf n)) ≡ Leaf
   unfolding shapeOf named fits
   shape-signed n e = rw e
 
-  shape-unsigned : (n : ℕ) → isSmall false (wideOf n .w0) (wideOf n .w1) (wideOf n .w2) (wideOf n .w3) ≡ false → shapeOf s kindUnsigned (wideOf n .w0) (wideOf n .w1) (wideOf n .w2) (wideOf n .w3) ≡ Leaf
+  shape-unsigned : (n : ℕ) → isSmall false (integerOwn kindUnsigned (wideOf n)) ≡ false → shapeOf s (integerOwn kindUnsigned (wideOf n)) ≡ Leaf
   unfolding shapeOf named fits
   shape-unsigned n e = rw e
 
@@ -104,18 +107,18 @@ module _ (s : List ℕ) where
   float-size (suc (suc (suc (suc (suc (suc (suc zero))))))) l h = refl
   float-size (suc (suc (suc (suc (suc (suc (suc (suc b)))))))) l h = absurd (omega arith)
 
-  payload-shape : (kind place size : ℕ) → place + size ≤ length s → Payload s kind place size → shapeOf s kind place size 0 0 ≡ Leaf
+  payload-shape : (kind place size : ℕ) → place + size ≤ length s → Payload s kind place size → shapeOf s (spanOwn kind place size) ≡ Leaf
   unfolding shapeOf named fits
   payload-shape kind place size h (floating b l u k z) = rw k (rw (span-yes place size h, z, float-size b l u))
   payload-shape kind place size h (written k w) = rw k (rw (spelt-yes place size h w))
   payload-shape kind place size h (binary k) = rw k (rw (span-yes place size h))
 
-  char-shape : (c : ℕ) → codepoint c ≡ true → shapeOf s kindChar c 0 0 0 ≡ Leaf
+  char-shape : (c : ℕ) → codepoint c ≡ true → shapeOf s (charOwn c) ≡ Leaf
   unfolding shapeOf named fits blank
   char-shape c e = rw e
 
   -- a damaged body
-  damaged-shape : (place n : ℕ) (e : Refusal) → place + n ≤ length s → shapeOf s kindForeign place n (refusalNumber e) 0 ≡ Damaged
+  damaged-shape : (place n : ℕ) (e : Refusal) → place + n ≤ length s → shapeOf s (damagedOwn place n (refusalNumber e)) ≡ Damaged
   unfolding shapeOf named fits
   damaged-shape place n why.Short h = rw (span-yes place n h)
   damaged-shape place n why.Marker h = rw (span-yes place n h)
@@ -127,54 +130,39 @@ module _ (s : List ℕ) where
   damaged-shape place n why.Deep h = rw (span-yes place n h)
   damaged-shape place n why.Extra h = rw (span-yes place n h)
 
-  whole-shape : shapeOf s kindForeign 0 0 0 0 ≡ Whole
+  whole-shape : shapeOf s foreignOwn ≡ Whole
   unfolding shapeOf named fits blank
   whole-shape = refl
 
-  hold-shape : (h : Holder) (n : ℕ) → shapeOf s (kindOf h) n 0 0 0 ≡ Hold h
+  hold-shape : (h : Holder) (n : ℕ) → shapeOf s (holderOwn (kindOf h) n) ≡ Hold h
   unfolding shapeOf named fits blank
   hold-shape Array n = refl
   hold-shape Record n = refl
   hold-shape Map n = refl
 
-  module _ (d k : ℕ) where
-    leaf-fine : (kind w0 w1 w2 w3 : ℕ) → shapeOf s kind w0 w1 w2 w3 ≡ Leaf → Fine s (suc d) k (leaf kind w0 w1 w2 w3)
-    unfolding Fine
-    leaf-fine kind w0 w1 w2 w3 e = (omega arith, plain e)
+  integer-leaf : (signed : Bool) (n : ℕ) → shapeOf s (integerOwn (integerKind signed n) (wideOf n)) ≡ Leaf
+  integer-leaf true n =
+      bool-case (hasNumber (integerSigned .direct) n)
+      (λ e. rw e (shape-small n (small-words kindSmall n e)))
+      (λ e. rw e (shape-signed n (has-wide (integerSigned .direct) n ∙ e)))
+  integer-leaf false n =
+      bool-case (hasNumber (integerUnsigned .direct) n)
+      (λ e. rw e (shape-small n (small-both (valueOf (wideOf n)) (low n) (has-wide (integerUnsigned .direct) n ∙ e))))
+      (λ e. rw e (shape-unsigned n (has-wide (integerUnsigned .direct) n ∙ e)))
+    where
+      low : (n : ℕ) → valueOf (wideOf n) < wordsWhole
+      low n = subst (λ (x : ℕ). x < wordsWhole) (sym (value-rest n)) (mod-lt n (omega (arith, bytes-whole)))
 
-    integer-fine : (signed : Bool) (n : ℕ) → Fine s (suc d) k (integerOf signed n)
-    integer-fine true n =
-        bool-case (hasNumber (integerSigned .direct) n)
-        (λ e. rw e (leaf-fine kindSmall (wideOf n .w0) (wideOf n .w1) (wideOf n .w2) (wideOf n .w3) (shape-small n (small-words n e))))
-        (λ e. rw e (leaf-fine kindSigned (wideOf n .w0) (wideOf n .w1) (wideOf n .w2) (wideOf n .w3) (shape-signed n (has-wide (integerSigned .direct) n ∙ e))))
-    integer-fine false n =
-        bool-case (hasNumber (integerUnsigned .direct) n)
-        (λ e. rw e (leaf-fine kindSmall (wideOf n .w0) (wideOf n .w1) (wideOf n .w2) (wideOf n .w3) (shape-small n (small-both (valueOf (wideOf n)) (low n) (has-wide (integerUnsigned .direct) n ∙ e)))))
-        (λ e. rw e (leaf-fine kindUnsigned (wideOf n .w0) (wideOf n .w1) (wideOf n .w2) (wideOf n .w3) (shape-unsigned n (has-wide (integerUnsigned .direct) n ∙ e))))
-      where
-        low : (n : ℕ) → valueOf (wideOf n) < wordsWhole
-        low n = subst (λ (x : ℕ). x < wordsWhole) (sym (value-rest n)) (mod-lt n (omega (arith, bytes-whole)))
-
-    content-fine : (at next : ℕ) (c : Content) → ContentAt s at next c → next ≤ length s → Fine s (suc d) k (leafOf s c)
-    unfolding leafOf
-    content-fine at next (holds.Constant kind) w l = leaf-fine kind 0 0 0 0 (constant-shape s kind (w .low) (w .high))
-    content-fine at next (holds.Small marker) w l =
-        let n : ℕ = numberOf (integerSigned .direct) marker in
-        leaf-fine kindSmall (wideOf n .w0) (wideOf n .w1) (wideOf n .w2) (wideOf n .w3)
-        (shape-small n (small-words n (number-has (integerSigned .direct) (sound-integers .signed .direct-run) marker ∙ marker-has marker (w .low) (w .high))))
-    content-fine at next (holds.Integer signed place size) w l = integer-fine signed (bodyValue signed (take size (drop place s)))
-    content-fine at next (holds.Span kind place size) w l = leaf-fine kind place size 0 0 (payload-shape kind place size (omega (arith, w .ends)) (w .payload))
-    content-fine at next (holds.Char c) w l = leaf-fine kindChar c 0 0 0 (char-shape c (w .allowed))
-
--- ---- keys
-
-key-content : (s : List ℕ) (at next : ℕ) (c : Content) → KeyContent s at next c → next ≤ length s → KeyFine s (leafOf s c)
-unfolding leafOf KeyFine
-key-content s at next (holds.Constant kind) w l = absurd w
-key-content s at next (holds.Small marker) w l = absurd w
-key-content s at next (holds.Integer signed place size) w l = absurd w
-key-content s at next (holds.Span kind place size) w l = (w .named, spelt-yes s place size (omega (arith, w .ends)) (w .spelt))
-key-content s at next (holds.Char c) w l = absurd w
+  -- a leaf that is read
+  content-leaf : (at next : ℕ) (c : Content) → ContentAt s at next c → next ≤ length s → shapeOf s (leafOwn s c) ≡ Leaf
+  unfolding leafOwn
+  content-leaf at next (holds.Constant kind) w l = constant-shape s kind (w .low) (w .high)
+  content-leaf at next (holds.Small marker) w l =
+      let n : ℕ = numberOf (integerSigned .direct) marker in
+      shape-small n (small-words kindSmall n (number-has (integerSigned .direct) (sound-integers .signed .direct-run) marker ∙ marker-has marker (w .low) (w .high)))
+  content-leaf at next (holds.Integer signed place size) w l = integer-leaf signed (bodyValue signed (take size (drop place s)))
+  content-leaf at next (holds.Span kind place size) w l = payload-shape kind place size (omega (arith, w .ends)) (w .payload)
+  content-leaf at next (holds.Char c) w l = char-shape c (w .allowed)
 
 -- ---- what is read
 
@@ -187,36 +175,33 @@ abbrev FinesAt : List ℕ → ℕ → Children → ℕ → ℕ → ℕ → Run �
 FinesAt s d c k i n (ran ts next) = (many ts ≡ n) × Fines s d c k i ts
 FinesAt s d c k i n (broke e place) = Unit {0}
 
-keyed-fine : (s : List ℕ) (at stop : ℕ) → stop ≤ length s → (h : Head) → KeyStood s at stop h → FineAt (KeyFine s) (keyed s h)
-keyed-fine s at stop l (stands.Leaf c next) w = key-content s at next c (w .content) (omega (arith, w .within))
-keyed-fine s at stop l (stands.Hold h n next) w = tt
-keyed-fine s at stop l (stands.Refer n next) w = tt
-keyed-fine s at stop l (stands.Declare n next) w = tt
-keyed-fine s at stop l (stands.Foreign place size) w = tt
-keyed-fine s at stop l (stands.Refuse e place) w = tt
+keyed-fine : (s : List ℕ) (at stop : ℕ) → stop ≤ length s → (x : Spelling) → Spelled s at stop x → FineAt (KeyFine s) (keyed at x)
+unfolding KeyFine
+keyed-fine s at stop l (At place n) w = spelt-yes s place n (omega (arith, w .within)) (w .spelt)
+keyed-fine s at stop l (No e) w = tt
 
 pub force-next : (c : Children) (k i : ℕ) → after (isEntry c) (inForce c k i) ≡ inForce c k (i + 1)
 force-next Plain k i = refl
 force-next Keyed k i = refl
-force-next Growing k i = refl
+force-next Entries k i = refl
 
 module _ (s : List ℕ) (d : ℕ) (good : (k at stop : ℕ) → stop ≤ length s → FineAt (Fine s d k) (value d s k at stop)) where
-  turn-fine : (b : Bool) (k at stop : ℕ) → stop ≤ length s → FineAt (λ t. Either b (KeyFine s t) (Fine s d k t)) (inTurn b (value d s) s k at stop)
-  turn-fine true k at stop l = keyed-fine s at stop l (keyAt s at stop) (key-stood s at stop)
+  turn-fine : (b : Bool) (k at stop : ℕ) → stop ≤ length s → FineAt (λ t. IfKey b (KeyFine s t) (Fine s d k t)) (inTurn b (value d s) s k at stop)
+  turn-fine true k at stop l = keyed-fine s at stop l (keyAt s at stop) (key-spelled s at stop)
   turn-fine false k at stop l = good k at stop l
 
   child-fine : (c : Children) (k i at stop : ℕ) → stop ≤ length s
-      → FineAt (λ t. Either (isKey c i) (KeyFine s t) (Fine s d (inForce c k i) t)) (child c (value d s) s k i at stop)
+      → FineAt (λ t. IfKey (isKey c i) (KeyFine s t) (Fine s d (inForce c k i) t)) (child c (value d s) s k i at stop)
   unfolding child
   child-fine c k i at stop l = turn-fine (isKey c i) (inForce c k i) at stop l
 
-  ahead-fine : (c : Children) (k i n : ℕ) (t : Tree) → Either (isKey c i) (KeyFine s t) (Fine s d (inForce c k i) t) → (q : Run)
+  ahead-fine : (c : Children) (k i n : ℕ) (t : Tree) → IfKey (isKey c i) (KeyFine s t) (Fine s d (inForce c k i) t) → (q : Run)
       → FinesAt s d c (inForce c k (i + 1)) (i + 1) n q → FinesAt s d c (inForce c k i) i (suc n) (ahead t q)
   unfolding many Fine
   ahead-fine c k i n t f (ran ts next) g = (ap suc (g .0), (f, subst (λ (x : ℕ). Fines s d c x (i + 1) ts) (sym (force-next c k i)) (g .1)))
   ahead-fine c k i n t f (broke e place) g = tt
 
-  follow-fine : (c : Children) (k i n : ℕ) (x : Reading) → FineAt (λ t. Either (isKey c i) (KeyFine s t) (Fine s d (inForce c k i) t)) x → (rest : ℕ → Run)
+  follow-fine : (c : Children) (k i n : ℕ) (x : Reading) → FineAt (λ t. IfKey (isKey c i) (KeyFine s t) (Fine s d (inForce c k i) t)) x → (rest : ℕ → Run)
       → ((m : ℕ) → FinesAt s d c (inForce c k (i + 1)) (i + 1) n (rest m)) → FinesAt s d c (inForce c k i) i (suc n) (follow x rest)
   follow-fine c k i n (right t m) f rest g = ahead-fine c k i n t f (rest m) (g m)
   follow-fine c k i n (wrong e place) f rest g = tt
@@ -227,54 +212,54 @@ module _ (s : List ℕ) (d : ℕ) (good : (k at stop : ℕ) → stop ≤ length 
   run-fine c k i (suc n) at stop l =
       follow-fine c k i n (child c (value d s) s k i at stop) (child-fine c k i at stop l) _ (λ m. run-fine c k (i + 1) n m stop l)
 
-  held-fine : (h : Holder) (k n : ℕ) (q : Run) → FinesAt s d (childrenOf h) k 0 (childCount h n) q → FineAt (Fine s (suc d) k) (held (kindOf h) n q)
+  held-fine : (h : Holder) (k n : ℕ) (q : Run) → FinesAt s d (childrenOf h) k 0 (childCount h n) q → FineAt (Fine s (suc d) k) (held (holderOwn (kindOf h) n) q)
   unfolding Fine
-  held-fine h k n (ran ts next) f =
-      (omega arith, (childrenOf h, k, holder h (hold-shape s h n) (f .0) refl refl, subst (λ (x : ℕ). Fines s x (childrenOf h) k 0 ts) (sym (down d)) (f .1)))
+  held-fine h k n (ran ts next) f = (omega arith, (h, hold-shape s h n, f .0, subst (λ (x : ℕ). Fines s x (childrenOf h) k 0 ts) (sym (down d)) (f .1)))
   held-fine h k n (broke e place) f = tt
 
-  closed-fine : (k n : ℕ) → 0 < n → (es : Trees) → many es ≡ n → Fines s d Growing 0 0 es → (x : Reading) → FineAt (Fine s d n) x → FineAt (Fine s (suc d) k) (closed n es x)
+  closed-fine : (k n : ℕ) → 0 < n → (es : Trees) → many es ≡ n → Fines s d Entries 0 0 es → (x : Reading) → FineAt (Fine s d n) x → FineAt (Fine s (suc d) k) (closed n es x)
   unfolding Fine
   closed-fine k n some es num f (right t next) g =
-      (omega arith, some, num, subst (λ (x : ℕ). Fines s x Growing 0 0 es) (sym (down d)) f, subst (λ (x : ℕ). Fine s x n t) (sym (down d)) g)
+      (omega arith, declare-shape s n some, num, subst (λ (x : ℕ). Fines s x Entries 0 0 es) (sym (down d)) f, subst (λ (x : ℕ). Fine s x n t) (sym (down d)) g)
   closed-fine k n some es num f (wrong e place) g = tt
 
-  declaring-fine : (k n : ℕ) → 0 < n → (q : Run) → FinesAt s d Growing 0 0 n q → (stop : ℕ) → stop ≤ length s → FineAt (Fine s (suc d) k) (declaring n q (value d s) stop)
+  declaring-fine : (k n : ℕ) → 0 < n → (q : Run) → FinesAt s d Entries 0 0 n q → (stop : ℕ) → stop ≤ length s → FineAt (Fine s (suc d) k) (declaring n q (value d s) stop)
   declaring-fine k n some (ran es next) f stop l = closed-fine k n some es (f .0) (f .1) (value d s n next stop) (good n next stop l)
   declaring-fine k n some (broke e place) f stop l = tt
 
-  -- a body of n bytes, read as x
-  framed-fine : (k place n : ℕ) → place + n ≤ length s → (x : Reading) → value d s (inForeign k) place (place + n) ≡ x → FineAt (Fine s d (inForeign k)) x
-      → FineAt (Fine s (suc d) k) (framed place n x)
-  unfolding Fine many
-  framed-fine k place n l (right t next) e f = go (eqb next (place + n)) refl
+  whole-fine : (F : Tree → Type 0) (stop : ℕ) (x : Reading) → FineAt F x → FineAt F (whole stop x)
+  whole-fine F stop (right t next) f = go (eqb next stop)
     where
-      go : (b : Bool) → eqb next (place + n) ≡ b → FineAt (Fine s (suc d) k) (framedRight b t place n)
-      go true q = (omega arith, (Plain, inForeign k, foreign (whole-shape s) refl refl refl, (subst (λ (x : ℕ). Fine s x (inForeign k) t) (sym (down d)) f, tt)))
-      go false q = (
-        omega arith,
-        damaged (damaged-shape s place n why.Extra l) why.Extra next
-            (rw (down d) (ap (whole (place + n)) e ∙ ap (λ (x : Bool). ended x t next) q)) refl,
-      )
-  framed-fine k place n l (wrong r p) e f =
-      (omega arith, damaged (damaged-shape s place n r l) r p (rw (down d) (ap (whole (place + n)) e)) refl)
+      go : (b : Bool) → FineAt F (ended b t next)
+      go true = f
+      go false = tt
+  whole-fine F stop (wrong e place) f = tt
+
+  -- a body of n bytes, read as x
+  framed-fine : (k place n : ℕ) → place + n ≤ length s → (x : Reading) → whole (place + n) (value d s (inForeign k) place (place + n)) ≡ x → FineAt (Fine s d (inForeign k)) x
+      → FineAt (Fine s (suc d) k) (framed place n x)
+  unfolding Fine
+  framed-fine k place n l (right t next) e f = (omega arith, whole-shape s, subst (λ (x : ℕ). Fine s x (inForeign k) t) (sym (down d)) f)
+  framed-fine k place n l (wrong r p) e f = (omega arith, damaged-shape s place n r l, record { why = r; place = p; reads = rw (down d) e; verdict = refl })
 
   referred-fine : (k at n next : ℕ) (b : Bool) → ltb n k ≡ b → FineAt (Fine s (suc d) k) (referred b n at next)
   unfolding Fine
-  referred-fine k at n next true e = (omega arith, ltb-true n k e)
+  referred-fine k at n next true e = (omega arith, refer-shape s n 0, refl, ltb-true n k e)
   referred-fine k at n next false e = tt
 
   step-fine : (k at stop : ℕ) → stop ≤ length s → (h : Head) → Stood s at stop h → FineAt (Fine s (suc d) k) (step (value d s) s k at stop h)
   unfolding step Fine
-  step-fine k at stop l (stands.Leaf c next) w = content-fine s d k at next c (w .content) (omega (arith, w .within))
+  step-fine k at stop l (stands.Leaf c next) w = (omega arith, content-leaf s at next c (w .content) (omega (arith, w .within)))
   step-fine k at stop l (stands.Hold h n next) w =
       let Q : Run = run (value d s) (childrenOf h) s k 0 (childCount h n) next stop in
       held-fine h k n Q (subst (λ (x : ℕ). FinesAt s d (childrenOf h) x 0 (childCount h n) Q) (around-force h k 0) (run-fine (childrenOf h) k 0 (childCount h n) next stop l))
   step-fine k at stop l (stands.Refer n next) w = referred-fine k at n next (ltb n k) refl
   step-fine k at stop l (stands.Declare n next) w =
-      declaring-fine k n (omega (arith, w .some)) (run (value d s) Growing s 0 0 n next stop) (run-fine Growing 0 0 n next stop l) stop l
+      declaring-fine k n (omega (arith, w .some)) (run (value d s) Entries s 0 0 n next stop) (run-fine Entries 0 0 n next stop l) stop l
   step-fine k at stop l (stands.Foreign place n) w =
-      framed-fine k place n (omega (arith, w .within)) (value d s (inForeign k) place (place + n)) refl (good (inForeign k) place (place + n) (omega (arith, w .within)))
+      let x : Reading = value d s (inForeign k) place (place + n) in
+      framed-fine k place n (omega (arith, w .within)) (whole (place + n) x) refl
+      (whole-fine (Fine s d (inForeign k)) (place + n) x (good (inForeign k) place (place + n) (omega (arith, w .within))))
   step-fine k at stop l (stands.Refuse e place) w = tt
 
 pub value-fine : (s : List ℕ) (d k at stop : ℕ) → stop ≤ length s → FineAt (Fine s d k) (value d s k at stop)

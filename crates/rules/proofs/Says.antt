@@ -1,5 +1,5 @@
 -- What the shape of a row says of its words. Assumes nothing.
-use mathlib.Core.Path.{_≡_, refl, sym, subst}
+use mathlib.Core.Path.{_≡_, refl, sym, ap, _∙_, subst}
 use Prim.Native.Nat.{ℕ, _+_, _≤_, _<_}
 use native.Mathlib.Omega.{arith}
 use mathlib.Core.Bool.{Bool, true, false, _&&_}
@@ -7,16 +7,19 @@ use mathlib.Core.List.{List}
 use lib.ListN.{length, take, drop}
 use Rattle.text.specs.Check.{textOf, wellFormed}
 use Rattle.format.specs.Head.{floatSizes}
+use Rattle.format.specs.declared.head.Holder.{Holder}
 use Rattle.format.specs.Value.{kindOf}
+use Rattle.format.specs.Layout.{aimed}
 use lib.Dec.{ltb, eqb}
 use borrow.Author.Tests.{eqb-true, ltb-true, lt-ltb}
 use Rattle.wide.proofs.Families.{cond-case}
-use Rattle.rows.specs.Kinds.{kindFalse, kindTrue, kindNone, kindSmall, kindSigned, kindUnsigned, kindFloat, kindText, kindArray, kindRecord, kindMap, kindBinary, kindChar, kindReference, kindDeclaration, kindForeign, kindKey}
+use Rattle.rows.specs.Table.{Own}
+use Rattle.rows.specs.Kinds.{kindFalse, kindTrue, kindNone, kindSmall, kindSigned, kindUnsigned, kindFloat, kindText, kindArray, kindRecord, kindMap, kindBinary, kindChar, kindReference, kindDeclaration, kindForeign, kindKey, holderOwn, referenceOwn, declarationOwn, foreignOwn, damagedOwn}
 use Rattle.rules.specs.declared.kind.Kind.{Kind}
-use Rattle.rules.specs.declared.kind.Kind.the-variants.{Constant, Small, Signed, Unsigned, Float, Text, Holds, Binary, Char, Reference, Declaration, Whole, Damaged, Other}
+use Rattle.rules.specs.declared.kind.Kind.the-variants.{Constant, Small, Signed, Unsigned, Float, Text, Holds, Binary, Char, Reference, Declaration, Whole, Damaged, Key, Unknown}
 use Rattle.rules.specs.declared.shape.Shape.{Shape}
 use Rattle.rules.specs.declared.shape.Shape.the-variants as shape
-use Rattle.rules.specs.Shape.{named, blank, oneOf, span, spelt, fits, shapeIf, shapeOf}
+use Rattle.rules.specs.Shape.{named, blank, inside, oneOf, span, spelt, fits, shapeIf, shapeOf}
 use Rattle.lists.proofs.Tests.{and-first, and-second}
 use Rattle.rules.proofs.Judged.{span-within}
 
@@ -62,54 +65,63 @@ Names Reference k = k ≡ kindReference
 Names Declaration k = k ≡ kindDeclaration
 Names Whole k = k ≡ kindForeign
 Names Damaged k = k ≡ kindForeign
-Names Other k = Unit {0}
+Names Key k = k ≡ kindKey
+Names Unknown k = Unit {0}
 
-pub names : (k w2 : ℕ) → Names (named k w2) k
+pub names : (o : Own) → Names (named o) (o .kind)
 unfolding named
-names k w2 =
-    cond-case N (eqb k kindFalse) _ _ (λ e. let q = eqb-true k kindFalse e in (omega arith, omega arith)) (λ _.
-    cond-case N (eqb k kindTrue) _ _ (λ e. let q = eqb-true k kindTrue e in (omega arith, omega arith)) (λ _.
-    cond-case N (eqb k kindNone) _ _ (λ e. let q = eqb-true k kindNone e in (omega arith, omega arith)) (λ _.
-    cond-case N (eqb k kindSmall) _ _ (λ e. eqb-true k kindSmall e) (λ _.
-    cond-case N (eqb k kindSigned) _ _ (λ e. eqb-true k kindSigned e) (λ _.
-    cond-case N (eqb k kindUnsigned) _ _ (λ e. eqb-true k kindUnsigned e) (λ _.
-    cond-case N (eqb k kindFloat) _ _ (λ e. eqb-true k kindFloat e) (λ _.
-    cond-case N (eqb k kindText) _ _ (λ e. eqb-true k kindText e) (λ _.
-    cond-case N (eqb k kindArray) _ _ (λ e. eqb-true k kindArray e) (λ _.
-    cond-case N (eqb k kindRecord) _ _ (λ e. eqb-true k kindRecord e) (λ _.
-    cond-case N (eqb k kindMap) _ _ (λ e. eqb-true k kindMap e) (λ _.
-    cond-case N (eqb k kindBinary) _ _ (λ e. eqb-true k kindBinary e) (λ _.
-    cond-case N (eqb k kindChar) _ _ (λ e. eqb-true k kindChar e) (λ _.
-    cond-case N (eqb k kindReference) _ _ (λ e. eqb-true k kindReference e) (λ _.
-    cond-case N (eqb k kindDeclaration) _ _ (λ e. eqb-true k kindDeclaration e) (λ _.
-    cond-case N (eqb k kindForeign) _ _ (λ e. let q = eqb-true k kindForeign e in cond-case N (eqb w2 0) Whole Damaged (λ _. q) (λ _. q)) (λ _.
-    tt))))))))))))))))
+names o =
+    cond-case N (eqb (o .kind) kindFalse) _ _ (λ e. let q = eqb-true (o .kind) kindFalse e in (omega arith, omega arith)) (λ _.
+    cond-case N (eqb (o .kind) kindTrue) _ _ (λ e. let q = eqb-true (o .kind) kindTrue e in (omega arith, omega arith)) (λ _.
+    cond-case N (eqb (o .kind) kindNone) _ _ (λ e. let q = eqb-true (o .kind) kindNone e in (omega arith, omega arith)) (λ _.
+    cond-case N (eqb (o .kind) kindSmall) _ _ (λ e. eqb-true (o .kind) kindSmall e) (λ _.
+    cond-case N (eqb (o .kind) kindSigned) _ _ (λ e. eqb-true (o .kind) kindSigned e) (λ _.
+    cond-case N (eqb (o .kind) kindUnsigned) _ _ (λ e. eqb-true (o .kind) kindUnsigned e) (λ _.
+    cond-case N (eqb (o .kind) kindFloat) _ _ (λ e. eqb-true (o .kind) kindFloat e) (λ _.
+    cond-case N (eqb (o .kind) kindText) _ _ (λ e. eqb-true (o .kind) kindText e) (λ _.
+    cond-case N (eqb (o .kind) kindArray) _ _ (λ e. eqb-true (o .kind) kindArray e) (λ _.
+    cond-case N (eqb (o .kind) kindRecord) _ _ (λ e. eqb-true (o .kind) kindRecord e) (λ _.
+    cond-case N (eqb (o .kind) kindMap) _ _ (λ e. eqb-true (o .kind) kindMap e) (λ _.
+    cond-case N (eqb (o .kind) kindBinary) _ _ (λ e. eqb-true (o .kind) kindBinary e) (λ _.
+    cond-case N (eqb (o .kind) kindChar) _ _ (λ e. eqb-true (o .kind) kindChar e) (λ _.
+    cond-case N (eqb (o .kind) kindReference) _ _ (λ e. eqb-true (o .kind) kindReference e) (λ _.
+    cond-case N (eqb (o .kind) kindDeclaration) _ _ (λ e. eqb-true (o .kind) kindDeclaration e) (λ _.
+    cond-case N (eqb (o .kind) kindForeign) _ _ (λ e. let q = eqb-true (o .kind) kindForeign e in cond-case N (eqb (o .w2) 0) Whole Damaged (λ _. q) (λ _. q)) (λ _.
+    cond-case N (eqb (o .kind) kindKey) _ _ (λ e. eqb-true (o .kind) kindKey e) (λ _.
+    tt)))))))))))))))))
   where
     N : Kind → Type 0
-    N K = Names K k
+    N K = Names K (o .kind)
 
--- ---- a row's words, by its shape
+pub key-named : (o : Own) → o .kind ≡ kindKey → named o ≡ Key
+unfolding named
+key-named o e = rw e
 
-pub record Rest (w1 w2 w3 : ℕ) : Type 0 where
-  pub no1 : w1 ≡ 0
-  pub no2 : w2 ≡ 0
-  pub no3 : w3 ≡ 0
+-- ---- what a row says, by its shape
 
-abbrev pub Says : List ℕ → ℕ → ℕ → ℕ → ℕ → ℕ → Shape → Type 0
-Says s kind w0 w1 w2 w3 shape.Bad = Unit {0}
-Says s kind w0 w1 w2 w3 shape.Leaf = Unit {0}
-Says s kind w0 w1 w2 w3 shape.Refer = (kind ≡ kindReference) × (w2 ≡ 0) × (w3 ≡ 0)
-Says s kind w0 w1 w2 w3 (shape.Hold h) = Rest w1 w2 w3
-Says s kind w0 w1 w2 w3 shape.Declare = (kind ≡ kindDeclaration) × (0 < w0) × Rest w1 w2 w3
-Says s kind w0 w1 w2 w3 shape.Whole = Rest w1 w2 w3
-Says s kind w0 w1 w2 w3 shape.Damaged = w0 + w1 ≤ length s
+own-is : (o p : Own) → o .kind ≡ p .kind → o .w0 ≡ p .w0 → o .w1 ≡ p .w1 → o .w2 ≡ p .w2 → o .w3 ≡ p .w3 → o ≡ p
+own-is o p a b c d e = λ i. record { kind = a i; w0 = b i; w1 = c i; w2 = d i; w3 = e i }
 
-module _ (s : List ℕ) (kind w0 w1 w2 w3 : ℕ) where
-  rest : (a : ℕ) → blank a w1 w2 w3 ≡ true → Rest w1 w2 w3
-  rest a e = record { no1 = blank-second a w1 w2 w3 e; no2 = blank-third a w1 w2 w3 e; no3 = blank-fourth a w1 w2 w3 e }
+abbrev pub Says : List ℕ → Own → Shape → Type 0
+Says s o shape.Bad = Unit {0}
+Says s o shape.Leaf = Unit {0}
+Says s o shape.Refer = o ≡ referenceOwn (o .w0) (o .w1)
+Says s o (shape.Hold h) = o ≡ holderOwn (kindOf h) (o .w0)
+Says s o shape.Declare = (o ≡ declarationOwn (o .w0)) × (0 < o .w0)
+Says s o shape.Whole = o ≡ foreignOwn
+Says s o shape.Damaged = (o ≡ damagedOwn (o .w0) (o .w1) (o .w2)) × (o .w0 + o .w1 ≤ length s)
 
-  by-kind : (k : Kind) → Names k kind → (b : Bool) → fits s w0 w1 w2 w3 k ≡ b → Says s kind w0 w1 w2 w3 (shapeIf b k)
-  unfolding fits
+module _ (s : List ℕ) (o : Own) where
+  abbrev B : ℕ → Bool
+  B a = blank a (o .w1) (o .w2) (o .w3)
+
+  -- only w0 may be other than 0
+  rest : (kind a : ℕ) → o .kind ≡ kind → B a ≡ true → o ≡ holderOwn kind (o .w0)
+  rest kind a m e =
+      own-is o (holderOwn kind (o .w0)) m refl (blank-second a (o .w1) (o .w2) (o .w3) e) (blank-third a (o .w1) (o .w2) (o .w3) e) (blank-fourth a (o .w1) (o .w2) (o .w3) e)
+
+  by-kind : (k : Kind) → Names k (o .kind) → (b : Bool) → fits s o k ≡ b → Says s o (shapeIf b k)
+  unfolding fits span
   by-kind k m false e = tt
   by-kind Constant m true e = tt
   by-kind Small m true e = tt
@@ -117,77 +129,119 @@ module _ (s : List ℕ) (kind w0 w1 w2 w3 : ℕ) where
   by-kind Unsigned m true e = tt
   by-kind Float m true e = tt
   by-kind Text m true e = tt
-  by-kind (Holds h) m true e = rest 0 e
+  by-kind (Holds h) m true e = rest (kindOf h) 0 m e
   by-kind Binary m true e = tt
   by-kind Char m true e = tt
-  by-kind Reference m true e = (m, blank-third 0 0 w2 w3 e, blank-fourth 0 0 w2 w3 e)
-  by-kind Declaration m true e = (m, ltb-true 0 w0 (and-second (blank 0 w1 w2 w3) (ltb 0 w0) e), rest 0 (and-first (blank 0 w1 w2 w3) (ltb 0 w0) e))
-  by-kind Whole m true e = rest w0 e
-  by-kind Damaged m true e = span-within s w0 w1 0 w3 e
-  by-kind Other m true e = tt
+  by-kind Reference m true e =
+      own-is o (referenceOwn (o .w0) (o .w1)) m refl refl (blank-third 0 0 (o .w2) (o .w3) e) (blank-fourth 0 0 (o .w2) (o .w3) e)
+  by-kind Declaration m true e = (rest kindDeclaration 0 m (and-first (B 0) (ltb 0 (o .w0)) e), ltb-true 0 (o .w0) (and-second (B 0) (ltb 0 (o .w0)) e))
+  by-kind Whole m true e =
+      rest kindForeign (o .w0) m e ∙ ap (holderOwn kindForeign) (blank-first (o .w0) (o .w1) (o .w2) (o .w3) e)
+  by-kind Damaged m true e = (
+    own-is o (damagedOwn (o .w0) (o .w1) (o .w2)) m refl refl refl (blank-fourth 0 0 0 (o .w3) (and-first (blank 0 0 0 (o .w3)) (inside s (o .w0) (o .w1)) e)),
+    span-within s (o .w0) (o .w1) 0 (o .w3) e,
+  )
+  by-kind Key m true e = tt
+  by-kind Unknown m true e = tt
 
-  pub says : Says s kind w0 w1 w2 w3 (shapeOf s kind w0 w1 w2 w3)
+  pub says : Says s o (shapeOf s o)
   unfolding shapeOf
-  says = by-kind (named kind w2) (names kind w2) (fits s w0 w1 w2 w3 (named kind w2)) refl
+  says = by-kind (named o) (names o) (fits s o (named o)) refl
+
+  -- the same where the shape is known
+  said-as : (x : Shape) → shapeOf s o ≡ x → Says s o x
+  said-as x e = subst (Says s o) e says
+
+  pub refer-own : shapeOf s o ≡ shape.Refer → o ≡ referenceOwn (o .w0) (o .w1)
+  refer-own e = said-as shape.Refer e
+
+  pub hold-own : (h : Holder) → shapeOf s o ≡ shape.Hold h → o ≡ holderOwn (kindOf h) (o .w0)
+  hold-own h e = said-as (shape.Hold h) e
+
+  pub declare-own : shapeOf s o ≡ shape.Declare → o ≡ declarationOwn (o .w0)
+  declare-own e = said-as shape.Declare e .0
+
+  pub declare-some : shapeOf s o ≡ shape.Declare → 0 < o .w0
+  declare-some e = said-as shape.Declare e .1
+
+  pub foreign-own : shapeOf s o ≡ shape.Whole → o ≡ foreignOwn
+  foreign-own e = said-as shape.Whole e
+
+  pub damaged-own : shapeOf s o ≡ shape.Damaged → o ≡ damagedOwn (o .w0) (o .w1) (o .w2)
+  damaged-own e = said-as shape.Damaged e .0
+
+  pub damaged-inside : shapeOf s o ≡ shape.Damaged → o .w0 + o .w1 ≤ length s
+  damaged-inside e = said-as shape.Damaged e .1
 
 -- ---- shapes of rows that trees lay
 
-pub refer-shape : (s : List ℕ) (number entry : ℕ) → shapeOf s kindReference number entry 0 0 ≡ shape.Refer
+pub refer-shape : (s : List ℕ) (number entry : ℕ) → shapeOf s (referenceOwn number entry) ≡ shape.Refer
 unfolding shapeOf named fits blank
 refer-shape s number entry = refl
 
-pub declare-shape : (s : List ℕ) (count : ℕ) → 0 < count → shapeOf s kindDeclaration count 0 0 0 ≡ shape.Declare
+pub declare-shape : (s : List ℕ) (count : ℕ) → 0 < count → shapeOf s (declarationOwn count) ≡ shape.Declare
 unfolding shapeOf named fits blank
 declare-shape s count h = rw (lt-ltb 0 count h)
+
+-- a reference is one wherever its entry stands
+pub aimed-shape : (s : List ℕ) (o : Own) (entry : ℕ) → shapeOf s o ≡ shape.Refer → shapeOf s (aimed o entry) ≡ shape.Refer
+aimed-shape s o entry e = ap (λ (p : Own). shapeOf s (aimed p entry)) (refer-own s o e) ∙ refer-shape s (o .w0) entry
 
 -- ---- payloads
 
 -- a leaf's payload lies in the data
-abbrev pub HasInside : ℕ → ℕ → ℕ → Shape → Type 0
-HasInside l w0 w1 shape.Bad = Unit {0}
-HasInside l w0 w1 shape.Leaf = w0 + w1 ≤ l
-HasInside l w0 w1 shape.Refer = ⊥
-HasInside l w0 w1 (shape.Hold h) = ⊥
-HasInside l w0 w1 shape.Declare = ⊥
-HasInside l w0 w1 shape.Whole = ⊥
-HasInside l w0 w1 shape.Damaged = ⊥
+abbrev pub HasInside : ℕ → Own → Shape → Type 0
+HasInside l o shape.Bad = Unit {0}
+HasInside l o shape.Leaf = o .w0 + o .w1 ≤ l
+HasInside l o shape.Refer = ⊥
+HasInside l o (shape.Hold h) = ⊥
+HasInside l o shape.Declare = ⊥
+HasInside l o shape.Whole = ⊥
+HasInside l o shape.Damaged = ⊥
 
 pub spelt-within : (s : List ℕ) (w0 w1 w2 w3 : ℕ) → spelt s w0 w1 w2 w3 ≡ true → w0 + w1 ≤ length s
 unfolding spelt
 spelt-within s w0 w1 w2 w3 e = span-within s w0 w1 w2 w3 (and-first (span s w0 w1 w2 w3) (wellFormed (textOf (take w1 (drop w0 s)))) e)
 
-module _ (s : List ℕ) (kind w0 w1 w2 w3 : ℕ) (x : Shape) (is : shapeOf s kind w0 w1 w2 w3 ≡ x) where
+module _ (s : List ℕ) (o : Own) (x : Shape) (is : shapeOf s o ≡ x) where
   abbrev P : Shape → Type 0
-  P = HasInside (length s) w0 w1
+  P = HasInside (length s) o
 
-  pub float-inside : kind ≡ kindFloat → P x
+  abbrev S : Bool
+  S = span s (o .w0) (o .w1) (o .w2) (o .w3)
+
+  pub float-inside : o .kind ≡ kindFloat → P x
   unfolding shapeOf named fits
-  float-inside e = subst P (rw e at is) (of (span s w0 w1 w2 w3 && oneOf floatSizes w1) refl)
+  float-inside e = subst P (rw e at is) (of (S && oneOf floatSizes (o .w1)) refl)
     where
-      of : (b : Bool) → span s w0 w1 w2 w3 && oneOf floatSizes w1 ≡ b → P (shapeIf b Float)
-      of true q = span-within s w0 w1 w2 w3 (and-first (span s w0 w1 w2 w3) (oneOf floatSizes w1) q)
+      of : (b : Bool) → S && oneOf floatSizes (o .w1) ≡ b → P (shapeIf b Float)
+      of true q = span-within s (o .w0) (o .w1) (o .w2) (o .w3) (and-first S (oneOf floatSizes (o .w1)) q)
       of false q = tt
 
-  pub text-inside : kind ≡ kindText → P x
+  pub text-inside : o .kind ≡ kindText → P x
   unfolding shapeOf named fits
-  text-inside e = subst P (rw e at is) (of (spelt s w0 w1 w2 w3) refl)
+  text-inside e = subst P (rw e at is) (of (spelt s (o .w0) (o .w1) (o .w2) (o .w3)) refl)
     where
-      of : (b : Bool) → spelt s w0 w1 w2 w3 ≡ b → P (shapeIf b Text)
-      of true q = spelt-within s w0 w1 w2 w3 q
+      of : (b : Bool) → spelt s (o .w0) (o .w1) (o .w2) (o .w3) ≡ b → P (shapeIf b Text)
+      of true q = spelt-within s (o .w0) (o .w1) (o .w2) (o .w3) q
       of false q = tt
 
-  pub binary-inside : kind ≡ kindBinary → P x
+  pub binary-inside : o .kind ≡ kindBinary → P x
   unfolding shapeOf named fits
-  binary-inside e = subst P (rw e at is) (of (span s w0 w1 w2 w3) refl)
+  binary-inside e = subst P (rw e at is) (of S refl)
     where
-      of : (b : Bool) → span s w0 w1 w2 w3 ≡ b → P (shapeIf b Binary)
-      of true q = span-within s w0 w1 w2 w3 q
+      of : (b : Bool) → S ≡ b → P (shapeIf b Binary)
+      of true q = span-within s (o .w0) (o .w1) (o .w2) (o .w3) q
       of false q = tt
 
   -- a key stands at no value position
-  pub key-bad : kind ≡ kindKey → x ≡ shape.Bad
+  pub key-bad : o .kind ≡ kindKey → x ≡ shape.Bad
   unfolding shapeOf named fits
-  key-bad e = sym (rw e at is)
+  key-bad e = sym (rw e at is) ∙ of (spelt s (o .w0) (o .w1) (o .w2) (o .w3))
+    where
+      of : (b : Bool) → shapeIf b Key ≡ shape.Bad
+      of true = refl
+      of false = refl
 
 -- ---- kinds that only one shape has
 
@@ -209,18 +263,18 @@ OnlyDeclare shape.Declare = Unit {0}
 OnlyDeclare shape.Whole = ⊥
 OnlyDeclare shape.Damaged = ⊥
 
-module _ (s : List ℕ) (kind w0 w1 w2 w3 : ℕ) (x : Shape) (is : shapeOf s kind w0 w1 w2 w3 ≡ x) where
-  pub reference-shape : kind ≡ kindReference → OnlyRefer x
-  unfolding shapeOf named
-  reference-shape e = subst OnlyRefer (rw e at is) (of (fits s w0 w1 w2 w3 Reference))
+module _ (s : List ℕ) (o : Own) (x : Shape) (is : shapeOf s o ≡ x) where
+  pub reference-shape : o .kind ≡ kindReference → OnlyRefer x
+  unfolding shapeOf named fits
+  reference-shape e = subst OnlyRefer (rw e at is) (of (fits s o Reference))
     where
       of : (b : Bool) → OnlyRefer (shapeIf b Reference)
       of true = tt
       of false = tt
 
-  pub declaration-shape : kind ≡ kindDeclaration → OnlyDeclare x
-  unfolding shapeOf named
-  declaration-shape e = subst OnlyDeclare (rw e at is) (of (fits s w0 w1 w2 w3 Declaration))
+  pub declaration-shape : o .kind ≡ kindDeclaration → OnlyDeclare x
+  unfolding shapeOf named fits
+  declaration-shape e = subst OnlyDeclare (rw e at is) (of (fits s o Declaration))
     where
       of : (b : Bool) → OnlyDeclare (shapeIf b Declaration)
       of true = tt

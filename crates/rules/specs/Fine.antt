@@ -4,43 +4,37 @@ use Prim.Native.Nat.{ℕ, suc, _+_, _-_, _*_, _≤_, _<_}
 use mathlib.Core.Bool.{Bool, true, false}
 use mathlib.Core.List.{List, []}
 use lib.ListN.{length, take}
-use Rattle.rows.specs.Table.{wordsPerRow, lent, limit}
-use Rattle.rows.specs.Kinds.{kindKey}
+use Rattle.rows.specs.Table.{wordsPerRow, Own, lent, limit}
 use Rattle.format.specs.declared.refusal.Refusal.{Refusal}
 use Rattle.format.specs.declared.head.Holder.{Holder}
 use Rattle.format.specs.declared.head.Children.{Children}
-use Rattle.format.specs.declared.head.Children.the-variants.{Plain, Growing}
-use Rattle.format.specs.Tree.{Tree, leaf, refer, hold, declare, Trees, none, more, many, size}
+use Rattle.format.specs.declared.head.Children.the-variants.{Entries}
+use Rattle.format.specs.Tree.{Tree, leaf, refer, hold, declare, foreign, damaged, Trees, none, more, many, size}
 use Rattle.format.specs.Value.{wrong, childCount, childrenOf, inForeign, value, whole, isKey}
 use Rattle.format.specs.Layout.{isEntry, layout}
-use Rattle.rules.specs.declared.shape.Shape.the-variants.{Leaf, Hold, Whole, Damaged}
-use Rattle.rules.specs.Shape.{spelt, shapeOf}
+use Rattle.rules.specs.declared.shape.Shape.the-variants.{Leaf, Refer, Hold, Declare, Whole, Damaged}
+use Rattle.rules.specs.Shape.{shapeOf, keyFits}
 use Rattle.format.specs.Refusal.{numberOf as refusalNumber}
 
--- a leaf over the data s; below it `levels` levels are left, and k entries are in force
-pub data LeafFine (s : List ℕ) (levels k kind w0 w1 w2 w3 : ℕ) : Type 0 where
-  plain : shapeOf s kind w0 w1 w2 w3 ≡ Leaf → LeafFine s levels k kind w0 w1 w2 w3
-  -- "a damaged row's verdict is what reading those bytes there gives"
-  damaged : shapeOf s kind w0 w1 w2 w3 ≡ Damaged → (e : Refusal) (place : ℕ)
-      → whole (w0 + w1) (value levels s (inForeign k) w0 (w0 + w1)) ≡ wrong e place → w2 ≡ refusalNumber e → LeafFine s levels k kind w0 w1 w2 w3
-
--- a holder that says `count` has n children of the sort c, and k′ entries are in force in them
-pub data HoldFine (s : List ℕ) (k kind count n : ℕ) (c : Children) (k′ : ℕ) : Type 0 where
-  -- "in the number the holder says (a record: key and value in turn; a map: two an entry"
-  holder : (h : Holder) → shapeOf s kind count 0 0 0 ≡ Hold h → n ≡ childCount h count → c ≡ childrenOf h → k′ ≡ k → HoldFine s k kind count n c k′
-  -- "16 foreign, right: all 0, one child"
-  foreign : shapeOf s kind count 0 0 0 ≡ Whole → n ≡ 1 → c ≡ Plain → k′ ≡ inForeign k → HoldFine s k kind count n c k′
+-- "a damaged row's verdict is what reading those bytes there gives": k entries are in force in the body, and `levels` levels are left
+pub record Spoilt (s : List ℕ) (levels k : ℕ) (o : Own) : Type 0 where
+  pub why : Refusal
+  pub place : ℕ
+  pub reads : whole (o .w0 + o .w1) (value levels s k (o .w0) (o .w0 + o .w1)) ≡ wrong why place
+  pub verdict : o .w2 ≡ refusalNumber why
 
 -- a record's key
 unfoldable pub KeyFine : List ℕ → Tree → Type 0
-KeyFine s (leaf kind w0 w1 w2 w3) = (kind ≡ kindKey) × (spelt s w0 w1 w2 w3 ≡ true)
-KeyFine s (refer number) = ⊥
-KeyFine s (hold kind count ts) = ⊥
-KeyFine s (declare count es t) = ⊥
+KeyFine s (leaf o) = keyFits s o ≡ true
+KeyFine s (refer o) = ⊥
+KeyFine s (hold o ts) = ⊥
+KeyFine s (declare o es t) = ⊥
+KeyFine s (foreign o t) = ⊥
+KeyFine s (damaged o) = ⊥
 
-abbrev pub Either : Bool → Type 0 → Type 0 → Type 0
-Either true A B = A
-Either false A B = B
+abbrev pub IfKey : Bool → Type 0 → Type 0 → Type 0
+IfKey true A B = A
+IfKey false A B = B
 
 -- how many entries are in force behind a child
 abbrev pub after : Bool → ℕ → ℕ
@@ -50,17 +44,21 @@ after false k = k
 -- a tree at a position with `levels` levels left, its own with them, where k entries are in force
 unfoldable mutual
   pub Fine : List ℕ → ℕ → ℕ → Tree → Type 0
-  Fine s levels k (leaf kind w0 w1 w2 w3) = (0 < levels) × LeafFine s (levels - 1) k kind w0 w1 w2 w3
-  Fine s levels k (refer number) = (0 < levels) × (number < k)
-  Fine s levels k (hold kind count ts) =
-      (0 < levels) × ((c : Children) × (k′ : ℕ) × HoldFine s k kind count (many ts) c k′ × Fines s (levels - 1) c k′ 0 ts)
-  Fine s levels k (declare count es t) =
-      (0 < levels) × (0 < count) × (many es ≡ count) × Fines s (levels - 1) Growing 0 0 es × Fine s (levels - 1) count t
+  Fine s levels k (leaf o) = (0 < levels) × (shapeOf s o ≡ Leaf)
+  -- the row of its entry is told by where it stands
+  Fine s levels k (refer o) = (0 < levels) × (shapeOf s o ≡ Refer) × (o .w1 ≡ 0) × (o .w0 < k)
+  -- "in the number the holder says (a record: key and value in turn; a map: two an entry"
+  Fine s levels k (hold o ts) =
+      (0 < levels) × ((h : Holder) × (shapeOf s o ≡ Hold h) × (many ts ≡ childCount h (o .w0)) × Fines s (levels - 1) (childrenOf h) k 0 ts)
+  Fine s levels k (declare o es t) =
+      (0 < levels) × (shapeOf s o ≡ Declare) × (many es ≡ o .w0) × Fines s (levels - 1) Entries 0 0 es × Fine s (levels - 1) (o .w0) t
+  Fine s levels k (foreign o t) = (0 < levels) × (shapeOf s o ≡ Whole) × Fine s (levels - 1) (inForeign k) t
+  Fine s levels k (damaged o) = (0 < levels) × (shapeOf s o ≡ Damaged) × Spoilt s (levels - 1) (inForeign k) o
 
   -- children of the sort c, the first of them number i
   pub Fines : List ℕ → ℕ → Children → ℕ → ℕ → Trees → Type 0
   Fines s levels c k i none = Unit {0}
-  Fines s levels c k i (more t ts) = Either (isKey c i) (KeyFine s t) (Fine s levels k t) × Fines s levels c (after (isEntry c) k) (i + 1) ts
+  Fines s levels c k i (more t ts) = IfKey (isKey c i) (KeyFine s t) (Fine s levels k t) × Fines s levels c (after (isEntry c) k) (i + 1) ts
 
 -- the first n rows of the table are those of the right tree t over the data s, with positions down to `depth`
 pub record Stands (depth : ℕ) (table : List ℕ) (n : ℕ) (s : List ℕ) (t : Tree) : Type 0 where

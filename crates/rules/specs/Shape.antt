@@ -8,34 +8,36 @@ use Rattle.wide.specs.Words.{valueOf, words}
 use Rattle.wide.specs.Family.{hasNumber}
 use Rattle.wide.specs.Members.{integer}
 use Rattle.text.specs.Check.{textOf, wellFormed}
-use Rattle.rows.specs.Kinds.{kindFalse, kindTrue, kindNone, kindSmall, kindSigned, kindUnsigned, kindFloat, kindText, kindArray, kindRecord, kindMap, kindBinary, kindChar, kindReference, kindDeclaration, kindForeign}
+use Rattle.rows.specs.Table.{Own}
+use Rattle.rows.specs.Kinds.{kindFalse, kindTrue, kindNone, kindSmall, kindSigned, kindUnsigned, kindFloat, kindText, kindArray, kindRecord, kindMap, kindBinary, kindChar, kindReference, kindDeclaration, kindForeign, kindKey}
 use Rattle.format.specs.declared.head.Holder.the-variants.{Array, Record, Map}
 use Rattle.format.specs.Head.{codepoint, floatSizes}
 use Rattle.rules.specs.declared.kind.Kind.{Kind}
-use Rattle.rules.specs.declared.kind.Kind.the-variants.{Constant, Small, Signed, Unsigned, Float, Text as Spelt, Holds, Binary, Char, Reference, Declaration, Whole, Damaged, Other}
+use Rattle.rules.specs.declared.kind.Kind.the-variants.{Constant, Small, Signed, Unsigned, Float, Text as Spelt, Holds, Binary, Char, Reference, Declaration, Whole, Damaged, Key, Unknown}
 use Rattle.rules.specs.declared.shape.Shape.{Shape}
 use Rattle.rules.specs.declared.shape.Shape.the-variants as shape
 
 -- "Row kinds, with the numbers that every part uses"; a damaged foreign document has a verdict in w2, a right one has 0
-unfoldable pub named : ℕ → ℕ → Kind
-named k w2 =
-    cond (eqb k kindFalse) Constant
-    (cond (eqb k kindTrue) Constant
-    (cond (eqb k kindNone) Constant
-    (cond (eqb k kindSmall) Small
-    (cond (eqb k kindSigned) Signed
-    (cond (eqb k kindUnsigned) Unsigned
-    (cond (eqb k kindFloat) Float
-    (cond (eqb k kindText) Spelt
-    (cond (eqb k kindArray) (Holds Array)
-    (cond (eqb k kindRecord) (Holds Record)
-    (cond (eqb k kindMap) (Holds Map)
-    (cond (eqb k kindBinary) Binary
-    (cond (eqb k kindChar) Char
-    (cond (eqb k kindReference) Reference
-    (cond (eqb k kindDeclaration) Declaration
-    (cond (eqb k kindForeign) (cond (eqb w2 0) Whole Damaged)
-    Other)))))))))))))))
+unfoldable pub named : Own → Kind
+named o =
+    cond (eqb (o .kind) kindFalse) Constant
+    (cond (eqb (o .kind) kindTrue) Constant
+    (cond (eqb (o .kind) kindNone) Constant
+    (cond (eqb (o .kind) kindSmall) Small
+    (cond (eqb (o .kind) kindSigned) Signed
+    (cond (eqb (o .kind) kindUnsigned) Unsigned
+    (cond (eqb (o .kind) kindFloat) Float
+    (cond (eqb (o .kind) kindText) Spelt
+    (cond (eqb (o .kind) kindArray) (Holds Array)
+    (cond (eqb (o .kind) kindRecord) (Holds Record)
+    (cond (eqb (o .kind) kindMap) (Holds Map)
+    (cond (eqb (o .kind) kindBinary) Binary
+    (cond (eqb (o .kind) kindChar) Char
+    (cond (eqb (o .kind) kindReference) Reference
+    (cond (eqb (o .kind) kindDeclaration) Declaration
+    (cond (eqb (o .kind) kindForeign) (cond (eqb (o .w2) 0) Whole Damaged)
+    (cond (eqb (o .kind) kindKey) Key
+    Unknown))))))))))))))))
 
 -- "unnamed ones are 0": the four words, with 0 for a named one
 unfoldable pub blank : ℕ → ℕ → ℕ → ℕ → Bool
@@ -46,8 +48,8 @@ unfoldable pub inside : List ℕ → ℕ → ℕ → Bool
 inside s place size = leb (place + size) (length s)
 
 -- "An integer in -31..64 is kind 4 from every form": the number of the four words is one of these; an unsigned one is not below 0
-abbrev pub isSmall : Bool → ℕ → ℕ → ℕ → ℕ → Bool
-isSmall signed w0 w1 w2 w3 = hasNumber (integer signed .direct) (valueOf (words w0 w1 w2 w3))
+abbrev pub isSmall : Bool → Own → Bool
+isSmall signed o = hasNumber (integer signed .direct) (valueOf (words (o .w0) (o .w1) (o .w2) (o .w3)))
 
 -- "float bodies of 2, 4, 8, 16, 32 bytes"
 unfoldable pub oneOf : List ℕ → ℕ → Bool
@@ -61,22 +63,23 @@ span s w0 w1 w2 w3 = blank 0 0 w2 w3 && inside s w0 w1
 unfoldable pub spelt : List ℕ → ℕ → ℕ → ℕ → ℕ → Bool
 spelt s w0 w1 w2 w3 = span s w0 w1 w2 w3 && wellFormed (textOf (take w1 (drop w0 s)))
 
--- whether the words w0..w3 are right for their kind, over the data s
-unfoldable pub fits : List ℕ → ℕ → ℕ → ℕ → ℕ → Kind → Bool
-fits s w0 w1 w2 w3 Constant = blank w0 w1 w2 w3
-fits s w0 w1 w2 w3 Small = isSmall true w0 w1 w2 w3
-fits s w0 w1 w2 w3 Signed = not (isSmall true w0 w1 w2 w3)
-fits s w0 w1 w2 w3 Unsigned = not (isSmall false w0 w1 w2 w3)
-fits s w0 w1 w2 w3 Float = span s w0 w1 w2 w3 && oneOf floatSizes w1
-fits s w0 w1 w2 w3 Spelt = spelt s w0 w1 w2 w3
-fits s w0 w1 w2 w3 (Holds holder) = blank 0 w1 w2 w3
-fits s w0 w1 w2 w3 Binary = span s w0 w1 w2 w3
-fits s w0 w1 w2 w3 Char = blank 0 w1 w2 w3 && codepoint w0
-fits s w0 w1 w2 w3 Reference = blank 0 0 w2 w3
-fits s w0 w1 w2 w3 Declaration = blank 0 w1 w2 w3 && ltb 0 w0  -- "w0 at least 1"
-fits s w0 w1 w2 w3 Whole = blank w0 w1 w2 w3  -- "right: all 0, one child"
-fits s w0 w1 w2 w3 Damaged = span s w0 w1 0 w3  -- "Damaged: w0 place, w1 size, w2 verdict (2..10), no child"
-fits s w0 w1 w2 w3 Other = false
+-- whether what a row says is right for its kind, over the data s
+unfoldable pub fits : List ℕ → Own → Kind → Bool
+fits s o Constant = blank (o .w0) (o .w1) (o .w2) (o .w3)
+fits s o Small = isSmall true o
+fits s o Signed = not (isSmall true o)
+fits s o Unsigned = not (isSmall false o)
+fits s o Float = span s (o .w0) (o .w1) (o .w2) (o .w3) && oneOf floatSizes (o .w1)
+fits s o Spelt = spelt s (o .w0) (o .w1) (o .w2) (o .w3)
+fits s o (Holds holder) = blank 0 (o .w1) (o .w2) (o .w3)
+fits s o Binary = span s (o .w0) (o .w1) (o .w2) (o .w3)
+fits s o Char = blank 0 (o .w1) (o .w2) (o .w3) && codepoint (o .w0)
+fits s o Reference = blank 0 0 (o .w2) (o .w3)
+fits s o Declaration = blank 0 (o .w1) (o .w2) (o .w3) && ltb 0 (o .w0)  -- "w0 at least 1"
+fits s o Whole = blank (o .w0) (o .w1) (o .w2) (o .w3)  -- "right: all 0, one child"
+fits s o Damaged = span s (o .w0) (o .w1) 0 (o .w3)  -- "Damaged: w0 place, w1 size, w2 verdict (2..10), no child"
+fits s o Key = spelt s (o .w0) (o .w1) (o .w2) (o .w3)
+fits s o Unknown = false
 
 -- the shape of a row of each kind
 abbrev pub shapeFor : Kind → Shape
@@ -93,12 +96,17 @@ shapeFor Reference = shape.Refer
 shapeFor Declaration = shape.Declare
 shapeFor Whole = shape.Whole
 shapeFor Damaged = shape.Damaged
-shapeFor Other = shape.Bad
+shapeFor Key = shape.Bad  -- "keys stand only as record keys"
+shapeFor Unknown = shape.Bad
 
 abbrev pub shapeIf : Bool → Kind → Shape
 shapeIf true kind = shapeFor kind
 shapeIf false kind = shape.Bad
 
--- what the words kind, w0..w3 of a row make it at a value position, over the data s
-unfoldable pub shapeOf : List ℕ → ℕ → ℕ → ℕ → ℕ → ℕ → Shape
-shapeOf s kind w0 w1 w2 w3 = shapeIf (fits s w0 w1 w2 w3 (named kind w2)) (named kind w2)
+-- what a row that says o is at a value position, over the data s
+unfoldable pub shapeOf : List ℕ → Own → Shape
+shapeOf s o = shapeIf (fits s o (named o)) (named o)
+
+-- whether it is a record's key
+abbrev pub keyFits : List ℕ → Own → Bool
+keyFits s o = eqb (o .kind) kindKey && spelt s (o .w0) (o .w1) (o .w2) (o .w3)

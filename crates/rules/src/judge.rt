@@ -1,5 +1,6 @@
 // The paper's table of kinds.
 ghost use mathlib.Core.Path.{_≡_};
+ghost use Rattle.rows.specs.Table.{ownOf};
 ghost use Rattle.rules.specs.Shape.{named, fits, shapeFor};
 use crate::kind::Kind;
 use crate::shape::Shape;
@@ -12,9 +13,10 @@ use format::Holder;
 use rows::Row;
 
 // What a row's number of kind names.
-pub fn named(kind: u32, w2: u32) -> Kind
-    ensures { λ r. ⌜ r ≡ named kind w2 ⌝ }
+pub fn named(w: Row) -> Kind
+    ensures { λ r. ⌜ r ≡ named (ownOf w) ⌝ }
 {
+    let kind = w.kind;
     if kind == Row::FALSE {
         return Kind::Constant;
     }
@@ -67,17 +69,20 @@ pub fn named(kind: u32, w2: u32) -> Kind
         return Kind::Declaration;
     }
     if kind == Row::FOREIGN {
-        if w2 == 0 {
+        if w.w2 == 0 {
             return Kind::Whole;
         }
         return Kind::Damaged;
     }
-    Kind::Other
+    if kind == Row::KEY {
+        return Kind::Key;
+    }
+    Kind::Unknown
 }
 
 // Whether a row's words are right for its kind.
 pub fn fits(s: &[u8], w: Row, kind: Kind) -> bool
-    ensures { λ r. ⌜ r ≡ fits (now (s .entry)) (w .w0) (w .w1) (w .w2) (w .w3) kind ⌝ }
+    ensures { λ r. ⌜ r ≡ fits (now (s .entry)) (ownOf w) kind ⌝ }
 {
     match kind {
         Kind::Constant => blank(w.w0, w.w1, w.w2, w.w3),
@@ -108,7 +113,8 @@ pub fn fits(s: &[u8], w: Row, kind: Kind) -> bool
         }
         Kind::Whole => blank(w.w0, w.w1, w.w2, w.w3),
         Kind::Damaged => span(s, w.w0, w.w1, 0, w.w3),
-        Kind::Other => false,
+        Kind::Key => spelt(s, w.w0, w.w1, w.w2, w.w3),
+        Kind::Unknown => false,
     }
 }
 
@@ -130,6 +136,7 @@ pub fn shape_for(kind: Kind) -> Shape
         Kind::Declaration => Shape::Declare,
         Kind::Whole => Shape::Whole,
         Kind::Damaged => Shape::Damaged,
-        Kind::Other => Shape::Bad,
+        Kind::Key => Shape::Bad,
+        Kind::Unknown => Shape::Bad,
     }
 }

@@ -16,6 +16,8 @@ pub enum Kind {
     // A foreign document, right or damaged.
     Whole,
     Damaged,
-    // A key, which stands at no value position, or no kind at all.
-    Other,
+    // A record's key: it stands at no value position.
+    Key,
+    // No kind at all.
+    Unknown,
 }

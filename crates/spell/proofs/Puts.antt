@@ -16,7 +16,9 @@ use Rattle.encode.specs.Encode.{hasBytes, payload}
 use Rattle.encode.proofs.Back.{part-long}
 use Rattle.plan.specs.declared.plan.Plan.{Plan}
 use Rattle.plan.specs.Plan.{marked, planBytes, Plans}
-use Rattle.plan.specs.Own.{kindOf, ownHead}
+use Rattle.rows.specs.Table.{ownOf}
+use Rattle.rules.specs.Shape.{named}
+use Rattle.plan.specs.Own.{ownHead}
 use Rattle.spell.specs.Own.{ownBytes, ownSize, Inside}
 
 -- ---- marks
@@ -145,7 +147,7 @@ module _ (w : Row) (size : ℕ) (p : Plan) (h : Plans p (ownHead w size)) where
   pub head-long : p .marks + 1 + p .size ≡ length (ownHead w size)
   head-long = sym (plan-long p (h .few)) ∙ ap length (h .spells)
 
-  module _ (b : Bool) (e : b ≡ hasBytes (kindOf w)) where
+  module _ (b : Bool) (e : b ≡ hasBytes (named (ownOf w))) where
     pub size-with : b ≡ true → (n : ℕ) → n ≡ w .w1 → p .marks + 1 + p .size + n ≡ ownSize w size
     unfolding ownSize
     size-with t n q = ap₂ (λ (x y : ℕ). x + y) head-long (q ∙ ap (λ (x : Bool). cond x (w .w1) 0) (sym t ∙ e))
@@ -201,4 +203,4 @@ module _ (w : Row) (size : ℕ) (p : Plan) (h : Plans p (ownHead w size)) where
 
   pub plan-room : (s : List ℕ) (at : ℕ) (out : List ℕ) → at + length (ownBytes s w size) ≤ length out → at + length (planBytes p) ≤ length out
   unfolding ownBytes
-  plan-room s at out r = omega (arith, r, length-append (ownHead w size) (payload s (w .w0) (w .w1) (kindOf w)), ap length (h .spells))
+  plan-room s at out r = omega (arith, r, length-append (ownHead w size) (payload s (ownOf w)), ap length (h .spells))

@@ -5,6 +5,7 @@ use mathlib.Core.List.{List, [], _∷_, _++_}
 use Prim.Native.Nat.{ℕ, _+_, _^_, _≤_, _<_}
 use native.Mathlib.Omega.{arith}
 use lib.ListN.{length, take, drop, length-append}
+use Rattle.wide.specs.declared.wide.Wide.{Wide}
 use Rattle.wide.specs.Number.{bytesOf}
 use Rattle.wide.specs.Words.{whole, valueOf, words}
 use Rattle.wide.specs.Body.{sizeAt, rank}
@@ -17,11 +18,13 @@ use Rattle.wide.proofs.Families.{cond-case}
 use Rattle.format.specs.declared.head.Holder.{Holder}
 use Rattle.format.specs.declared.head.Holder.the-variants.{Array, Record, Map}
 use Rattle.rows.specs.declared.row.Row.{Row}
+use Rattle.rows.specs.Table.{Own, ownOf}
 use Rattle.rules.specs.declared.kind.Kind.{Kind}
-use Rattle.rules.specs.declared.kind.Kind.the-variants.{Constant, Small, Signed, Unsigned, Float, Text, Holds, Binary, Char, Reference, Declaration, Whole, Damaged, Other}
+use Rattle.rules.specs.declared.kind.Kind.the-variants.{Constant, Small, Signed, Unsigned, Float, Text, Holds, Binary, Char, Reference, Declaration, Whole, Damaged, Key, Unknown}
 use Rattle.encode.specs.Encode.{holderCount, headFor, hasBytes}
 use Rattle.encode.proofs.Back.{part-long}
-use Rattle.plan.specs.Own.{kindOf, ownHead}
+use Rattle.rules.specs.Shape.{named}
+use Rattle.plan.specs.Own.{ownHead}
 use Rattle.plan.proofs.Forms.{double-whole}
 use Rattle.spell.specs.Own.{ownBytes, ownSize, Inside}
 
@@ -45,33 +48,37 @@ holder-short Array n l = omega (arith, form-short (holderCount Array) n l)
 holder-short Record n l = omega (arith, form-short (holderCount Record) n l)
 holder-short Map n l = omega (arith, form-short (holderCount Map) n l)
 
-module _ (k w0 w1 w2 w3 size : ℕ) (h : Words (words w0 w1 w2 w3)) (l : size < whole) where
+module _ (o : Own) (size : ℕ) (h : Words (words (o .w0) (o .w1) (o .w2) (o .w3))) (l : size < whole) where
+  abbrev W : Wide
+  W = words (o .w0) (o .w1) (o .w2) (o .w3)
+
   word : (n : ℕ) → n < 2 ^ 32 → n < whole
   word n g = omega (arith, double-whole)
 
-  pub head-short : (K : Kind) → length (headFor k w0 w1 w2 w3 size K) ≤ 19
+  pub head-short : (K : Kind) → length (headFor o size K) ≤ 19
   unfolding headFor
   head-short Constant = omega arith
-  head-short Small = omega (arith, form-short integerSigned (valueOf (words w0 w1 w2 w3)) (value-lt (words w0 w1 w2 w3) h))
-  head-short Signed = omega (arith, form-short integerSigned (valueOf (words w0 w1 w2 w3)) (value-lt (words w0 w1 w2 w3) h))
-  head-short Unsigned = omega (arith, form-short integerUnsigned (valueOf (words w0 w1 w2 w3)) (value-lt (words w0 w1 w2 w3) h))
+  head-short Small = omega (arith, form-short integerSigned (valueOf W) (value-lt W h))
+  head-short Signed = omega (arith, form-short integerSigned (valueOf W) (value-lt W h))
+  head-short Unsigned = omega (arith, form-short integerUnsigned (valueOf W) (value-lt W h))
   head-short Float = omega arith
-  head-short Text = omega (arith, form-short textLength w1 (word w1 (h .f1)))
-  head-short (Holds holder) = holder-short holder w0 (word w0 (h .f0))
-  head-short Binary = omega (arith, form-short binaryLength w1 (word w1 (h .f1)))
-  head-short Char = omega (arith, length-bytesOf 3 w0)
-  head-short Reference = omega (arith, form-short referenceNumber w0 (word w0 (h .f0)))
-  head-short Declaration = omega (arith, form-short declarationCount w0 (word w0 (h .f0)))
+  head-short Text = omega (arith, form-short textLength (o .w1) (word (o .w1) (h .f1)))
+  head-short (Holds holder) = holder-short holder (o .w0) (word (o .w0) (h .f0))
+  head-short Binary = omega (arith, form-short binaryLength (o .w1) (word (o .w1) (h .f1)))
+  head-short Char = omega (arith, length-bytesOf 3 (o .w0))
+  head-short Reference = omega (arith, form-short referenceNumber (o .w0) (word (o .w0) (h .f0)))
+  head-short Declaration = omega (arith, form-short declarationCount (o .w0) (word (o .w0) (h .f0)))
   head-short Whole = omega (arith, form-short foreignLength size l)
-  head-short Damaged = omega (arith, form-short foreignLength w1 (word w1 (h .f1)))
-  head-short Other = omega (arith, form-short keyLength w1 (word w1 (h .f1)))
+  head-short Damaged = omega (arith, form-short foreignLength (o .w1) (word (o .w1) (h .f1)))
+  head-short Key = omega (arith, form-short keyLength (o .w1) (word (o .w1) (h .f1)))
+  head-short Unknown = omega arith
 
 -- ---- rows
 
 -- where the payload lies in the data, a row's own bytes are as many as its size says
 pub own-long : (s : List ℕ) (w : Row) (size : ℕ) → Inside s w → length (ownBytes s w size) ≡ ownSize w size
 unfolding ownBytes ownSize Inside
-own-long s w size i = length-append (ownHead w size) _ ∙ ap (λ (x : ℕ). length (ownHead w size) + x) (of (hasBytes (kindOf w)) i)
+own-long s w size i = length-append (ownHead w size) _ ∙ ap (λ (x : ℕ). length (ownHead w size) + x) (of (hasBytes (named (ownOf w))) i)
   where
     of : (b : Bool) → (b ≡ true → w .w0 + w .w1 ≤ length s) → length (cond b (take (w .w1) (drop (w .w0) s)) []) ≡ cond b (w .w1) 0
     of true g = part-long s (w .w0) (w .w1) (g refl)
@@ -80,24 +87,25 @@ own-long s w size i = length-append (ownHead w size) _ ∙ ap (λ (x : ℕ). len
 pub own-few : (s : List ℕ) (w : Row) (size : ℕ) → Inside s w → Words (words (w .w0) (w .w1) (w .w2) (w .w3)) → size < whole → ownSize w size ≤ 19 + length s
 unfolding ownSize ownHead Inside
 own-few s w size i h l =
-    cond-case (λ (x : ℕ). length (ownHead w size) + x ≤ 19 + length s) (hasBytes (kindOf w)) (w .w1) 0
-    (λ b. omega (arith, head-short (w .kind) (w .w0) (w .w1) (w .w2) (w .w3) size h l (kindOf w), i b))
-    (λ _. omega (arith, head-short (w .kind) (w .w0) (w .w1) (w .w2) (w .w3) size h l (kindOf w)))
+    cond-case (λ (x : ℕ). length (ownHead w size) + x ≤ 19 + length s) (hasBytes (named (ownOf w))) (w .w1) 0
+    (λ b. omega (arith, head-short (ownOf w) size h l (named (ownOf w)), i b))
+    (λ _. omega (arith, head-short (ownOf w) size h l (named (ownOf w))))
 
 -- only a whole foreign body's head asks for the size of the children
-pub head-any : (k w0 w1 w2 w3 a b : ℕ) (K : Kind) → (K ≡ Whole → ⊥) → headFor k w0 w1 w2 w3 a K ≡ headFor k w0 w1 w2 w3 b K
+pub head-any : (o : Own) (a b : ℕ) (K : Kind) → (K ≡ Whole → ⊥) → headFor o a K ≡ headFor o b K
 unfolding headFor
-head-any k w0 w1 w2 w3 a b Constant n = refl
-head-any k w0 w1 w2 w3 a b Small n = refl
-head-any k w0 w1 w2 w3 a b Signed n = refl
-head-any k w0 w1 w2 w3 a b Unsigned n = refl
-head-any k w0 w1 w2 w3 a b Float n = refl
-head-any k w0 w1 w2 w3 a b Text n = refl
-head-any k w0 w1 w2 w3 a b (Holds holder) n = refl
-head-any k w0 w1 w2 w3 a b Binary n = refl
-head-any k w0 w1 w2 w3 a b Char n = refl
-head-any k w0 w1 w2 w3 a b Reference n = refl
-head-any k w0 w1 w2 w3 a b Declaration n = refl
-head-any k w0 w1 w2 w3 a b Whole n = absurd (n refl)
-head-any k w0 w1 w2 w3 a b Damaged n = refl
-head-any k w0 w1 w2 w3 a b Other n = refl
+head-any o a b Constant n = refl
+head-any o a b Small n = refl
+head-any o a b Signed n = refl
+head-any o a b Unsigned n = refl
+head-any o a b Float n = refl
+head-any o a b Text n = refl
+head-any o a b (Holds holder) n = refl
+head-any o a b Binary n = refl
+head-any o a b Char n = refl
+head-any o a b Reference n = refl
+head-any o a b Declaration n = refl
+head-any o a b Whole n = absurd (n refl)
+head-any o a b Damaged n = refl
+head-any o a b Key n = refl
+head-any o a b Unknown n = refl

@@ -5,17 +5,19 @@ use mathlib.Core.List.{List, _++_}
 use Prim.Native.Nat.{ℕ, _+_, _≤_}
 use lib.ListN.{length}
 use Rattle.rows.specs.declared.row.Row.{Row}
+use Rattle.rows.specs.Table.{ownOf}
+use Rattle.rules.specs.Shape.{named}
 use Rattle.encode.specs.Encode.{hasBytes, payload}
-use Rattle.plan.specs.Own.{kindOf, ownHead}
+use Rattle.plan.specs.Own.{ownHead}
 
 -- what stands before the row's payload or its children, with its payload in the data s
 unfoldable pub ownBytes : List ℕ → Row → ℕ → List ℕ
-ownBytes s w size = ownHead w size ++ payload s (w .w0) (w .w1) (kindOf w)
+ownBytes s w size = ownHead w size ++ payload s (ownOf w)
 
 -- how many they are, where the payload lies in the data
 unfoldable pub ownSize : Row → ℕ → ℕ
-ownSize w size = length (ownHead w size) + cond (hasBytes (kindOf w)) (w .w1) 0
+ownSize w size = length (ownHead w size) + cond (hasBytes (named (ownOf w))) (w .w1) 0
 
 -- "every payload lies in the data"
 unfoldable pub Inside : List ℕ → Row → Type 0
-Inside s w = hasBytes (kindOf w) ≡ true → w .w0 + w .w1 ≤ length s
+Inside s w = hasBytes (named (ownOf w)) ≡ true → w .w0 + w .w1 ≤ length s

@@ -6,7 +6,8 @@ ghost use lib.ListN.{length, take, drop};
 ghost use lib.Seq.{sets};
 ghost use Rattle.encode.specs.Encode.{hasBytes};
 ghost use Rattle.plan.specs.Plan.{marked, planBytes};
-ghost use Rattle.plan.specs.Own.{kindOf};
+ghost use Rattle.rows.specs.Table.{ownOf};
+ghost use Rattle.rules.specs.Shape.{named};
 ghost use Rattle.spell.specs.Own.{Inside, ownBytes, ownSize};
 use plan::Plan;
 use plan::head_of;
@@ -15,9 +16,9 @@ use rules::Kind;
 
 // Whether a row has bytes of the data.
 fn has_bytes(w: Row) -> bool
-    ensures { λ r. ⌜ r ≡ hasBytes (kindOf w) ⌝ }
+    ensures { λ r. ⌜ r ≡ hasBytes (named (ownOf w)) ⌝ }
 {
-    match rules::named(w.kind, w.w2) {
+    match rules::named(w) {
         Kind::Constant => false,
         Kind::Small => false,
         Kind::Signed => false,
@@ -31,7 +32,8 @@ fn has_bytes(w: Row) -> bool
         Kind::Declaration => false,
         Kind::Whole => false,
         Kind::Damaged => true,
-        Kind::Other => true,
+        Kind::Key => true,
+        Kind::Unknown => false,
     }
 }
 
@@ -128,7 +130,7 @@ fn put_part(out: &mut [u8], at: usize, data: &[u8], place: usize, size: usize)
 
 // A row's own bytes at `at`, where it has none of the data; only the contract speaks of them.
 fn put_bare(out: &mut [u8], at: usize, data: &[u8], w: Row, size: usize) -> usize
-    requires { ⌜ (hasBytes (kindOf w) ≡ false) × (at + length (ownBytes (now «data») w size) ≤ length (now out)) ⌝ }
+    requires { ⌜ (hasBytes (named (ownOf w)) ≡ false) × (at + length (ownBytes (now «data») w size) ≤ length (now out)) ⌝ }
     ensures { λ r. ⌜ r ≡ at + length (ownBytes (now («data» .entry)) w size) ⌝ }
     ensures { λ _. ⌜ now (out .exit) ≡ sets (now (out .entry)) at (ownBytes (now («data» .entry)) w size) ⌝ }
 {
@@ -138,7 +140,7 @@ fn put_bare(out: &mut [u8], at: usize, data: &[u8], w: Row, size: usize) -> usiz
 
 // A row's own bytes at `at`, where it has some of the data.
 fn put_with(out: &mut [u8], at: usize, data: &[u8], w: Row, size: usize) -> usize
-    requires { ⌜ (hasBytes (kindOf w) ≡ true) × Inside (now «data») w × (at + length (ownBytes (now «data») w size) ≤ length (now out)) ⌝ }
+    requires { ⌜ (hasBytes (named (ownOf w)) ≡ true) × Inside (now «data») w × (at + length (ownBytes (now «data») w size) ≤ length (now out)) ⌝ }
     ensures { λ r. ⌜ r ≡ at + length (ownBytes (now («data» .entry)) w size) ⌝ }
     ensures { λ _. ⌜ now (out .exit) ≡ sets (now (out .entry)) at (ownBytes (now («data» .entry)) w size) ⌝ }
 {
@@ -156,7 +158,7 @@ pub fn put_row(out: &mut [u8], at: usize, data: &[u8], w: Row, size: usize) -> u
     ensures { λ r. ⌜ r ≡ at + length (ownBytes (now («data» .entry)) w size) ⌝ }
     ensures { λ _. ⌜ now (out .exit) ≡ sets (now (out .entry)) at (ownBytes (now («data» .entry)) w size) ⌝ }
 {
-    match rules::named(w.kind, w.w2) {
+    match rules::named(w) {
         Kind::Constant => put_bare(out, at, data, w, size),
         Kind::Small => put_bare(out, at, data, w, size),
         Kind::Signed => put_bare(out, at, data, w, size),
@@ -170,6 +172,7 @@ pub fn put_row(out: &mut [u8], at: usize, data: &[u8], w: Row, size: usize) -> u
         Kind::Declaration => put_bare(out, at, data, w, size),
         Kind::Whole => put_bare(out, at, data, w, size),
         Kind::Damaged => put_with(out, at, data, w, size),
-        Kind::Other => put_with(out, at, data, w, size),
+        Kind::Key => put_with(out, at, data, w, size),
+        Kind::Unknown => put_bare(out, at, data, w, size),
     }
 }

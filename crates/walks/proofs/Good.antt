@@ -1,38 +1,31 @@
 -- A spot that stands in a table: its rows are there, it is right, and so are the entries in force. Assumes nothing.
 use Rattle.format.specs.Value.{isKey}
 use mathlib.Core.Path.{_≡_, refl, sym, ap, ap₂, _∙_, subst}
-use Prim.Native.Nat.{ℕ, _+_, _-_, _*_, _≤_}
+use Prim.Native.Nat.{ℕ, zero, suc, _+_, _-_, _*_, _≤_}
 use native.Mathlib.Omega.{arith}
 use native.Mathlib.Nat.{add-zero, zero-add}
 use mathlib.Core.Bool.{Bool, true, false}
 use mathlib.Core.List.{List, [], _∷_, _++_, append-assoc}
-use lib.ListN.{length, drop, length-append}
-use Rattle.rows.specs.declared.row.Row.{Row}
-use Rattle.rows.specs.Table.{wordsPerRow, wordsOf, lent}
-use Rattle.rows.specs.Kinds.{holderRow, declarationRow}
-use Rattle.rows.proofs.Rows.{length-words}
+use lib.ListN.{length, take, drop, length-append}
+use Rattle.rows.specs.Table.{wordsPerRow, lent}
 use Rattle.format.specs.declared.head.Children.{Children}
-use Rattle.format.specs.declared.head.Children.the-variants.{Growing}
-use Rattle.format.specs.Tree.{Tree, leaf, refer, hold, declare, Trees, none, more, many, size, sizes}
-use Rattle.format.specs.Layout.{isEntry, layout, layouts, entries}
-use Rattle.format.proofs.Layouts.{no-entry, length-layout}
-use Rattle.rules.specs.Fine.{HoldFine, holder, foreign, KeyFine, Either, after, Fine, Fines}
-use Rattle.walks.specs.Spots.{Spot, spot, Spots, nil, cons, rowOf, endOf, behind, held, declared, children}
-use Rattle.rules.proofs.Regrow.{behind as rows-behind}
-
--- the rows of the entries in force
-abbrev pub rowsOf : Spots → List ℕ
-rowsOf nil = []
-rowsOf (cons x xs) = rowOf x ∷ rowsOf xs
+use Rattle.format.specs.declared.head.Children.the-variants.{Entries}
+use Rattle.format.specs.Tree.{Tree, leaf, refer, hold, declare, foreign, damaged, Trees, none, more, many, size, sizes}
+use Rattle.format.specs.Value.{childrenOf, inForeign}
+use Rattle.format.specs.Layout.{isEntry, layout, layouts, entries, inBody}
+use Rattle.format.proofs.Layouts.{no-entry, length-layout, length-body, below}
+use Rattle.rules.specs.Fine.{KeyFine, IfKey, after, Fine, Fines}
+use Rattle.walks.specs.Spots.{Spot, spot, Spots, nil, cons, rowOf, endOf, rowsOf, behind, front, forBody, held, declared, children}
+use Rattle.rules.proofs.Regrow.{behind as rows-behind, rest-at}
 
 -- a value that is fine at some depth, or a key
 pub record Right (s : List ℕ) (k : ℕ) (t : Tree) : Type 0 where
   pub key : Bool
   pub levels : ℕ
-  pub fine : Either key (KeyFine s t) (Fine s levels k t)
+  pub fine : IfKey key (KeyFine s t) (Fine s levels k t)
 
 -- the rows of t stand from `row` on
-pub record Own (table : List ℕ) (n : ℕ) (s : List ℕ) (t : Tree) (row : ℕ) (registry : List ℕ) : Type 0 where
+pub record Stood (table : List ℕ) (n : ℕ) (s : List ℕ) (t : Tree) (row : ℕ) (registry : List ℕ) : Type 0 where
   pub room : n ≤ lent table
   pub within : row + size t ≤ n
   pub rest : List ℕ
@@ -46,7 +39,7 @@ Before row (cons x xs) = (endOf x ≤ row) × Before row xs
 
 unfoldable mutual
   pub Good : List ℕ → ℕ → List ℕ → Spot → Type 0
-  Good table n s (spot t row force) = Own table n s t row (rowsOf force) × Before row force × Goods table n s force
+  Good table n s (spot t row force) = Stood table n s t row (rowsOf force) × Before row force × Goods table n s force
 
   pub Goods : List ℕ → ℕ → List ℕ → Spots → Type 0
   Goods table n s nil = Unit {0}
@@ -57,15 +50,13 @@ unfoldable pub Linked : ℕ → Spots → Type 0
 Linked row nil = Unit {0}
 Linked row (cons x xs) = (rowOf x ≡ row) × Linked (endOf x) xs
 
--- ---- keys
-
-no-key-hold : (s : List ℕ) (kind count : ℕ) (ts : Trees) → KeyFine s (hold kind count ts) → ⊥
-unfolding KeyFine
-no-key-hold s kind count ts f = f
-
-no-key-declare : (s : List ℕ) (count : ℕ) (es : Trees) (t : Tree) → KeyFine s (declare count es t) → ⊥
-unfolding KeyFine
-no-key-declare s count es t f = f
+-- a tree that is no key is fine
+pub value-fine : (s : List ℕ) (k : ℕ) (t : Tree) → (KeyFine s t → ⊥) → (r : Right s k t) → Fine s (r .levels) k t
+value-fine s k t never r = of (r .key) (r .fine)
+  where
+    of : (b : Bool) → IfKey b (KeyFine s t) (Fine s (r .levels) k t) → Fine s (r .levels) k t
+    of true f = absurd (never f)
+    of false f = f
 
 -- ---- registries
 
@@ -84,24 +75,21 @@ unfolding Before behind
 before-behind row nil x b h = (h, tt)
 before-behind row (cons y ys) x b h = (b .0, before-behind row ys x (b .1) h)
 
--- a holder and a declaration are no keys
-pub hold-fine : (s : List ℕ) (k : ℕ) (kind count : ℕ) (ts : Trees) (r : Right s k (hold kind count ts)) → Fine s (r .levels) k (hold kind count ts)
-hold-fine s k kind count ts r = of (r .key) (r .fine)
-  where
-    of : (b : Bool) → Either b (KeyFine s (hold kind count ts)) (Fine s (r .levels) k (hold kind count ts)) → Fine s (r .levels) k (hold kind count ts)
-    of true f = absurd (no-key-hold s kind count ts f)
-    of false f = f
+rows-front : (k : ℕ) (xs : Spots) → rowsOf (front k xs) ≡ take k (rowsOf xs)
+unfolding front
+rows-front zero xs = refl
+rows-front (suc k) nil = refl
+rows-front (suc k) (cons x xs) = ap (λ (l : List ℕ). rowOf x ∷ l) (rows-front k xs)
 
-pub declare-fine : (s : List ℕ) (k : ℕ) (count : ℕ) (es : Trees) (t : Tree) (r : Right s k (declare count es t)) → Fine s (r .levels) k (declare count es t)
-declare-fine s k count es t r = of (r .key) (r .fine)
-  where
-    of : (b : Bool) → Either b (KeyFine s (declare count es t)) (Fine s (r .levels) k (declare count es t)) → Fine s (r .levels) k (declare count es t)
-    of true f = absurd (no-key-declare s count es t f)
-    of false f = f
+-- the spots in force in a body have the rows that are
+rows-body : (force : Spots) → rowsOf (forBody force) ≡ inBody (rowsOf force)
+rows-body force = rows-front (inForeign (length (rowsOf force))) force
 
-hold-below : (s : List ℕ) (d k kind count m : ℕ) (ts : Trees) (c : Children) (k′ : ℕ) → HoldFine s k kind count m c k′ → Fines s d c k′ 0 ts → (isEntry c ≡ false) × Fines s d c k 0 ts
-hold-below s d k kind count m ts c k′ (holder h e num cs kk) f = (ap isEntry cs ∙ no-entry h, subst (λ (x : ℕ). Fines s d c x 0 ts) kk f)
-hold-below s d k kind count m ts c k′ (foreign e num cs kk) f = (ap isEntry cs, subst (λ (x : ℕ). Fines s d c x 0 ts) kk f)
+before-front : (k row : ℕ) (xs : Spots) → Before row xs → Before row (front k xs)
+unfolding Before front
+before-front zero row xs b = tt
+before-front (suc k) row nil b = tt
+before-front (suc k) row (cons x xs) b = (b .0, before-front k row xs (b .1))
 
 module _ (table : List ℕ) (n : ℕ) (s : List ℕ) where
   goods-behind : (xs : Spots) (x : Spot) → Goods table n s xs → Good table n s x → Goods table n s (behind xs x)
@@ -109,7 +97,17 @@ module _ (table : List ℕ) (n : ℕ) (s : List ℕ) where
   goods-behind nil x g h = (h, tt)
   goods-behind (cons y ys) x g h = (g .0, goods-behind ys x (g .1) h)
 
+  goods-front : (k : ℕ) (xs : Spots) → Goods table n s xs → Goods table n s (front k xs)
+  unfolding Good front
+  goods-front zero xs g = tt
+  goods-front (suc k) nil g = tt
+  goods-front (suc k) (cons x xs) g = (g .0, goods-front k xs (g .1))
+
   -- ---- children
+
+  -- what stands behind a tree's own row
+  below-at : (t : Tree) (row : ℕ) (registry : List ℕ) (o : Stood table n s t row registry) → drop (wordsPerRow * (row + 1)) table ≡ below t row registry ++ o .rest
+  below-at t row registry o = rest-at table row registry (o .rest) t (o .words)
 
   -- trees from `row` on, with the registry that `force` has
   held-good : (ts : Trees) (d : ℕ) (c : Children) (i row : ℕ) (force : Spots) (rest : List ℕ) → n ≤ lent table → isEntry c ≡ false → row + sizes ts ≤ n
@@ -135,7 +133,7 @@ module _ (table : List ℕ) (n : ℕ) (s : List ℕ) where
   -- entries from `row` on, and the value behind them
   declared-good : (es : Trees) (t : Tree) (d count : ℕ) (row : ℕ) (force : Spots) (rest : List ℕ) → n ≤ lent table → row + (sizes es + size t) ≤ n
       → drop (wordsPerRow * row) table ≡ (layouts es true row (rowsOf force) ++ layout t (row + sizes es) (entries es row (rowsOf force))) ++ rest
-      → Fines s d Growing (length (rowsOf force)) (length (rowsOf force)) es → Fine s d count t → length (rowsOf force) + many es ≡ count → Before row force → Goods table n s force
+      → Fines s d Entries (length (rowsOf force)) (length (rowsOf force)) es → Fine s d count t → length (rowsOf force) + many es ≡ count → Before row force → Goods table n s force
       → Goods table n s (declared es t row force)
   unfolding declared Good layout size Fine many entries
   declared-good none t d count row force rest room b w f o num l g =
@@ -160,7 +158,7 @@ module _ (table : List ℕ) (n : ℕ) (s : List ℕ) where
       let own : Good table n s x = (record { room = room; within = omega arith; rest = (L ++ U) ++ rest; words = u; right = record { key = false; levels = d; fine = f .0 } }, l, g) in (
         own,
         declared-good es t d count (row + size e) (behind force x) rest room (omega arith) v′
-            (subst (λ (k : ℕ). Fines s d Growing k k es) (sym n′) (f .1)) o (omega arith)
+            (subst (λ (k : ℕ). Fines s d Entries k k es) (sym n′) (f .1)) o (omega arith)
             (before-behind (row + size e) force x (before-on row (row + size e) force (omega arith) l) (omega arith)) (goods-behind force x g own),
       )
 
@@ -169,34 +167,55 @@ module _ (table : List ℕ) (n : ℕ) (s : List ℕ) where
   declared-linked none t row force = (refl, tt)
   declared-linked (more e es) t row force = (refl, declared-linked es t (row + size e) (behind force (spot e row force)))
 
+  -- a foreign document's value
+  body-good : (t : Tree) (d row : ℕ) (force : Spots) (rest : List ℕ) → n ≤ lent table → row + size t ≤ n
+      → drop (wordsPerRow * row) table ≡ layout t row (inBody (rowsOf force)) ++ rest → Fine s d (inForeign (length (rowsOf force))) t → Before row force → Goods table n s force
+      → Good table n s (spot t row (forBody force))
+  unfolding Good
+  body-good t d row force rest room b w f l g =
+      let k : ℕ = inForeign (length (rowsOf force)) in
+      let r : rowsOf (forBody force) ≡ inBody (rowsOf force) = rows-body force in
+      let m : length (rowsOf (forBody force)) ≡ k = ap length r ∙ length-body (rowsOf force) in (
+        record {
+          room = room;
+          within = b;
+          rest = rest;
+          words = w ∙ ap (λ (x : List ℕ). layout t row x ++ rest) (sym r);
+          right = record { key = false; levels = d; fine = subst (λ (x : ℕ). Fine s d x t) (sym m) f };
+        },
+        before-front k row force l,
+        goods-front k force g,
+      )
+
   -- what stands below a good spot is good
   pub children-good : (x : Spot) → Good table n s x → Goods table n s (children x)
-  unfolding children Good Fine layout size Before
-  children-good (spot (leaf kind w0 w1 w2 w3) row force) g = tt
-  children-good (spot (refer number) row force) g = tt
-  children-good (spot (hold kind count ts) row force) g =
-      let R : List ℕ = rowsOf force in
-      let o = g .0 in
-      let w : Row = holderRow kind (row + (1 + sizes ts)) count in
-      let L : List ℕ = layouts ts false (row + 1) R in
-      let u : drop (wordsPerRow * row) table ≡ wordsOf w ++ (L ++ o .rest) = o .words ∙ append-assoc (wordsOf w) L (o .rest) in
-      let v : drop (wordsPerRow * (row + 1)) table ≡ L ++ o .rest = rows-behind table row 1 (wordsOf w) (L ++ o .rest) (length-words w) u in
-      let f = hold-fine s (length R) kind count ts (o .right) in
-      let h = hold-below s (o .right .levels - 1) (length R) kind count (many ts) ts (f .1 .0) (f .1 .1) (f .1 .2) (f .1 .3) in
-      held-good ts (o .right .levels - 1) (f .1 .0) 0 (row + 1) force (o .rest) (o .room) (h .0) (omega (arith, o .within)) v (h .1) (before-on row (row + 1) force (omega arith) (g .1)) (g .2)
-  children-good (spot (declare count es t) row force) g =
-      let R : List ℕ = rowsOf force in
-      let o = g .0 in
-      let w : Row = declarationRow (row + (1 + (sizes es + size t))) count in
-      let A : List ℕ = layouts es true (row + 1) [] ++ layout t (row + 1 + sizes es) (entries es (row + 1) []) in
-      let u : drop (wordsPerRow * row) table ≡ wordsOf w ++ (A ++ o .rest) = o .words ∙ append-assoc (wordsOf w) A (o .rest) in
-      let v : drop (wordsPerRow * (row + 1)) table ≡ A ++ o .rest = rows-behind table row 1 (wordsOf w) (A ++ o .rest) (length-words w) u in
-      let f = declare-fine s (length R) count es t (o .right) in
-      declared-good es t (o .right .levels - 1) count (row + 1) nil (o .rest) (o .room) (omega (arith, o .within)) v (f .3) (f .4) (zero-add (many es) ∙ f .2) tt tt
+  unfolding children Good KeyFine Fine size Before
+  children-good (spot (leaf o) row force) g = tt
+  children-good (spot (refer o) row force) g = tt
+  children-good (spot (hold o ts) row force) g =
+      let a = g .0 in
+      let f = value-fine s (length (rowsOf force)) (hold o ts) (λ k. k) (a .right) in
+      held-good ts (a .right .levels - 1) (childrenOf (f .1 .0)) 0 (row + 1) force (a .rest) (a .room) (no-entry (f .1 .0)) (omega (arith, a .within))
+      (below-at (hold o ts) row (rowsOf force) a) (f .1 .3) (before-on row (row + 1) force (omega arith) (g .1)) (g .2)
+  children-good (spot (declare o es t) row force) g =
+      let a = g .0 in
+      let f = value-fine s (length (rowsOf force)) (declare o es t) (λ k. k) (a .right) in
+      declared-good es t (a .right .levels - 1) (o .w0) (row + 1) nil (a .rest) (a .room) (omega (arith, a .within))
+      (below-at (declare o es t) row (rowsOf force) a) (f .3) (f .4) (zero-add (many es) ∙ f .2) tt tt
+  children-good (spot (foreign o t) row force) g =
+      let a = g .0 in
+      let f = value-fine s (length (rowsOf force)) (foreign o t) (λ k. k) (a .right) in (
+        body-good t (a .right .levels - 1) (row + 1) force (a .rest) (a .room) (omega (arith, a .within))
+            (below-at (foreign o t) row (rowsOf force) a) (f .2) (before-on row (row + 1) force (omega arith) (g .1)) (g .2),
+        tt,
+      )
+  children-good (spot (damaged o) row force) g = tt
 
   pub children-linked : (x : Spot) → Linked (rowOf x + 1) (children x)
   unfolding children Linked
-  children-linked (spot (leaf kind w0 w1 w2 w3) row force) = tt
-  children-linked (spot (refer number) row force) = tt
-  children-linked (spot (hold kind count ts) row force) = held-linked ts (row + 1) force
-  children-linked (spot (declare count es t) row force) = declared-linked es t (row + 1) nil
+  children-linked (spot (leaf o) row force) = tt
+  children-linked (spot (refer o) row force) = tt
+  children-linked (spot (hold o ts) row force) = held-linked ts (row + 1) force
+  children-linked (spot (declare o es t) row force) = declared-linked es t (row + 1) nil
+  children-linked (spot (foreign o t) row force) = (refl, tt)
+  children-linked (spot (damaged o) row force) = tt

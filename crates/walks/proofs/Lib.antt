@@ -4,3 +4,4 @@ pub mod Neither
 pub mod Walked
 pub mod Meets
 pub mod Resolves
+pub mod Along

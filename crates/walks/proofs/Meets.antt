@@ -1,30 +1,32 @@
 -- A walk over a table that passed the check stays in the table, gets no 12, and meets the tree's payloads. Assumes nothing.
 use mathlib.Core.Path.{_≡_, refl, sym, ap, _∙_, subst}
-use Prim.Native.Nat.{ℕ, _+_, _≤_, _<_}
+use Prim.Native.Nat.{ℕ, _+_, _≤_}
 use native.Mathlib.Omega.{arith}
-use mathlib.Core.Bool.{Bool, true, false, cond}
+use mathlib.Core.Bool.{Bool, true, false, cond, _&&_}
 use mathlib.Core.List.{List, [], _∷_}
 use lib.ListN.{length, getD}
-use lib.Dec.{eqb}
+use lib.Dec.{leb, eqb}
 use borrow.Author.Tests.{lt-ltb, le-leb, eqb-true}
 use Rattle.wide.proofs.Ranks.{bool-case}
-use Rattle.rows.specs.declared.row.Row.{Row}
-use Rattle.rows.specs.Table.{rowAt, lent}
-use Rattle.rows.specs.Kinds.{kindFloat, kindText, kindBinary, kindKey, kindReference, kindDeclaration, leafRow, holderRow, referenceRow, declarationRow}
-use Rattle.format.specs.declared.head.Children.{Children}
-use Rattle.format.specs.Tree.{Tree, leaf, refer, hold, declare, Trees, many, size, sizes}
+use Rattle.rows.specs.Table.{Own, lent}
+use Rattle.rows.specs.Kinds.{kindFloat, kindText, kindBinary, kindKey}
+use Rattle.lists.proofs.Tests.{and-second}
+use Rattle.format.specs.Tree.{Tree, leaf, refer, hold, declare, foreign, damaged, size}
+use Rattle.format.specs.Layout.{aimed}
+use Rattle.format.proofs.Layouts.{ownAt}
 use Rattle.rules.specs.declared.shape.Shape.{Shape}
-use Rattle.rules.specs.declared.shape.Shape.the-variants.{Bad, Leaf, Hold, Whole, Damaged}
-use Rattle.rules.specs.Shape.{shapeOf}
-use Rattle.rules.specs.Fine.{LeafFine, plain, damaged, HoldFine, holder, foreign, KeyFine, Either, Fine, Stands}
-use Rattle.rules.proofs.Says.{HasInside, spelt-within, float-inside, text-inside, binary-inside, key-bad}
+use Rattle.rules.specs.declared.shape.Shape.the-variants.{Bad, Leaf, Refer, Hold, Declare, Whole, Damaged}
+use Rattle.rules.specs.Shape.{spelt, shapeOf}
+use Rattle.rules.specs.Fine.{KeyFine, IfKey, Fine, Stands}
+use Rattle.rules.proofs.Says.{HasInside, spelt-within, float-inside, text-inside, binary-inside, key-bad, aimed-shape}
 use Rattle.walker.specs.declared.standing.Standing.{Standing}
 use Rattle.walker.specs.declared.step.Step.{Step}
 use Rattle.walker.specs.Walk.{standing, startOf}
-use Rattle.payload.specs.Payload.{hasPayload, part, partOf, payloadAt}
-use Rattle.walks.specs.Spots.{Spot, spot, Spots, nil, cons, treeOf, rowOf, Way, treeStep, boundOf, told, goOn, treeWalk, treeEnd, goTo, tableWalk, tableEnd, InTable, AllInTable, ownPart}
-use Rattle.walks.proofs.Good.{rowsOf, Right, Good, hold-fine}
-use Rattle.walks.proofs.Walked.{Here, HereAll, step-right, step-here, bound-in, good-own, leaf-row, refer-row, hold-row, declare-row, root, root-here, steps-right}
+use Rattle.payload.specs.declared.part.Part.{Part}
+use Rattle.payload.specs.Payload.{hasPayload, part, payloadAt}
+use Rattle.walks.specs.Spots.{Spot, spot, Spots, nil, cons, treeOf, rowOf, rowsOf, Way, treeStep, boundOf, told, goOn, treeWalk, treeEnd, goTo, tableWalk, tableEnd, InTable, AllInTable, ownPart}
+use Rattle.walks.proofs.Good.{Right, Good, value-fine}
+use Rattle.walks.proofs.Walked.{Here, HereAll, step-right, step-here, bound-in, good-own, stood-row, root, root-here, steps-right}
 
 -- ---- kinds with a payload
 
@@ -36,89 +38,58 @@ by-kind P kind h a b c d =
     bool-case (eqb kind kindBinary) (λ e. c (eqb-true kind kindBinary e)) (λ e₃.
     d (eqb-true kind kindKey (rw (e₁, e₂, e₃) at h)))))
 
--- a leaf has its payload in the data
-of-leaf : (s : List ℕ) (d k kind w0 w1 w2 w3 : ℕ) → LeafFine s d k kind w0 w1 w2 w3 → hasPayload kind ≡ true → w0 + w1 ≤ length s
-of-leaf s d k kind w0 w1 w2 w3 (plain e) h =
-    by-kind (w0 + w1 ≤ length s) kind h (float-inside s kind w0 w1 w2 w3 Leaf e) (text-inside s kind w0 w1 w2 w3 Leaf e) (binary-inside s kind w0 w1 w2 w3 Leaf e)
-    (λ q. absurd (let z : Leaf ≡ Bad = key-bad s kind w0 w1 w2 w3 Leaf e q in no-leaf z))
-  where
-    no-leaf : Leaf ≡ Bad → ⊥
-    no-leaf z = let y : _≡_ {A = ℕ} 0 1 = cc in omega arith
-of-leaf s d k kind w0 w1 w2 w3 (damaged e r p v u) h =
-    by-kind (w0 + w1 ≤ length s) kind h
-    (λ q. absurd (float-inside s kind w0 w1 w2 w3 Damaged e q)) (λ q. absurd (text-inside s kind w0 w1 w2 w3 Damaged e q)) (λ q. absurd (binary-inside s kind w0 w1 w2 w3 Damaged e q))
-    (λ q. absurd (let z : Damaged ≡ Bad = key-bad s kind w0 w1 w2 w3 Damaged e q in no-damaged z))
-  where
-    no-damaged : Damaged ≡ Bad → ⊥
-    no-damaged z = let y : _≡_ {A = ℕ} 0 1 = cc in omega arith
+abbrev Met : Shape → Type 0
+Met Bad = ⊥
+Met Leaf = Unit {0}
+Met Refer = Unit {0}
+Met (Hold h) = Unit {0}
+Met Declare = Unit {0}
+Met Whole = Unit {0}
+Met Damaged = Unit {0}
 
-of-either : (s : List ℕ) (d k kind w0 w1 w2 w3 : ℕ) (b : Bool) → Either b (KeyFine s (leaf kind w0 w1 w2 w3)) (Fine s d k (leaf kind w0 w1 w2 w3)) → hasPayload kind ≡ true
-    → w0 + w1 ≤ length s
-unfolding KeyFine Fine
-of-either s d k kind w0 w1 w2 w3 true f h = spelt-within s w0 w1 w2 w3 (f .1)
-of-either s d k kind w0 w1 w2 w3 false f h = of-leaf s _ k kind w0 w1 w2 w3 (f .1) h
+module _ (s : List ℕ) where
+  -- at a value position only a leaf has a payload, and it lies in the data
+  of-shape : (o : Own) (x : Shape) → shapeOf s o ≡ x → Met x → hasPayload (o .kind) ≡ true → HasInside (length s) o x
+  of-shape o x e met h =
+      by-kind (HasInside (length s) o x) (o .kind) h (float-inside s o x e) (text-inside s o x e) (binary-inside s o x e)
+      (λ q. absurd (subst Met (key-bad s o x e q) met))
 
--- a holder has none
-of-shape : (s : List ℕ) (kind count : ℕ) (x : Shape) → shapeOf s kind count 0 0 0 ≡ x → (HasInside (length s) count 0 x → ⊥) → (x ≡ Bad → ⊥) → hasPayload kind ≡ true → ⊥
-of-shape s kind count x e never bad h =
-    by-kind ⊥ kind h (λ q. never (float-inside s kind count 0 0 0 x e q)) (λ q. never (text-inside s kind count 0 0 0 x e q)) (λ q. never (binary-inside s kind count 0 0 0 x e q))
-    (λ q. bad (key-bad s kind count 0 0 0 x e q))
+  leaf-inside : (d k : ℕ) (o : Own) (b : Bool) → IfKey b (KeyFine s (leaf o)) (Fine s d k (leaf o)) → hasPayload (o .kind) ≡ true → o .w0 + o .w1 ≤ length s
+  unfolding KeyFine Fine
+  leaf-inside d k o true f h =
+      spelt-within s (o .w0) (o .w1) (o .w2) (o .w3) (and-second (eqb (o .kind) kindKey) (spelt s (o .w0) (o .w1) (o .w2) (o .w3)) f)
+  leaf-inside d k o false f h = of-shape o Leaf (f .1) tt h
 
-of-hold : (s : List ℕ) (k kind count m : ℕ) (c : Children) (k′ : ℕ) → HoldFine s k kind count m c k′ → hasPayload kind ≡ true → ⊥
-of-hold s k kind count m c k′ (holder h e num cs kk) =
-    of-shape s kind count (Hold h) e (λ z. z) (λ z. let y : _≡_ {A = ℕ} 0 1 = cc in omega arith)
-of-hold s k kind count m c k′ (foreign e num cs kk) =
-    of-shape s kind count Whole e (λ z. z) (λ z. let y : _≡_ {A = ℕ} 0 1 = cc in omega arith)
+  abbrev partIs : Own → Part
+  partIs o = cond (hasPayload (o .kind) && leb (o .w0 + o .w1) (length s)) (part (o .w0) (o .w1)) (part 0 0)
 
-hold-none : (s : List ℕ) (k kind count : ℕ) (ts : Trees) → Right s k (hold kind count ts) → hasPayload kind ≡ false
-unfolding Fine
-hold-none s k kind count ts r =
-    let f = hold-fine s k kind count ts r in
-    bool-case (hasPayload kind) (λ e. absurd (of-hold s k kind count (many ts) (f .1 .0) (f .1 .1) (f .1 .2) e)) (λ e. e)
+  leaf-part : (k : ℕ) (o : Own) → Right s k (leaf o) → partIs o ≡ ownPart (leaf o)
+  leaf-part k o r =
+      bool-case (hasPayload (o .kind)) (λ e. rw (e, le-leb (o .w0 + o .w1) (length s) (leaf-inside (r .levels) k o (r .key) (r .fine) e))) (λ e. rw e)
 
-reference-none : hasPayload kindReference ≡ false
-unfolding hasPayload
-reference-none = refl
+  no-part : (o : Own) → (hasPayload (o .kind) ≡ true → ⊥) → partIs o ≡ part 0 0
+  no-part o never = bool-case (hasPayload (o .kind)) (λ e. absurd (never e)) (λ e. rw e)
 
-declaration-none : hasPayload kindDeclaration ≡ false
-unfolding hasPayload
-declaration-none = refl
+  -- a right tree's own row has the tree's payload
+  top-part : (k : ℕ) (registry : List ℕ) (t : Tree) → Right s k t → partIs (ownAt t registry) ≡ ownPart t
+  unfolding KeyFine Fine
+  top-part k registry (leaf o) r = leaf-part k o r
+  top-part k registry (refer o) r =
+      let e : ℕ = getD registry (o .w0) 0 in
+      no-part (aimed o e) (of-shape (aimed o e) Refer (aimed-shape s o e (value-fine s k (refer o) (λ f. f) r .1)) tt)
+  top-part k registry (hold o ts) r = let f = value-fine s k (hold o ts) (λ f. f) r in no-part o (of-shape o (Hold (f .1 .0)) (f .1 .1) tt)
+  top-part k registry (declare o es t) r = no-part o (of-shape o Declare (value-fine s k (declare o es t) (λ f. f) r .1) tt)
+  top-part k registry (foreign o t) r = no-part o (of-shape o Whole (value-fine s k (foreign o t) (λ f. f) r .1) tt)
+  top-part k registry (damaged o) r = no-part o (of-shape o Damaged (value-fine s k (damaged o) (λ f. f) r .1) tt)
 
 module _ (table : List ℕ) (n : ℕ) (s : List ℕ) where
-  module _ (row : ℕ) (low : row < lent table) where
-    at-row : (w : Row) → rowAt table row ≡ w → payloadAt table row s ≡ partOf w s
-    unfolding payloadAt
-    at-row w e = rw (lt-ltb row (lent table) low, e)
-
-  -- a row of a kind that has none
-  other-part : (kind : ℕ) (w : Row) → w .kind ≡ kind → hasPayload kind ≡ false → partOf w s ≡ part 0 0
-  other-part kind w e f = rw (e, f)
-
-  leaf-part : (k kind w0 w1 w2 w3 row : ℕ) → Right s k (leaf kind w0 w1 w2 w3) → partOf (leafRow kind row w0 w1 w2 w3) s ≡ cond (hasPayload kind) (part w0 w1) (part 0 0)
-  leaf-part k kind w0 w1 w2 w3 row r =
-      bool-case (hasPayload kind)
-      (λ e. rw (e, le-leb (w0 + w1) (length s) (of-either s (r .levels) k kind w0 w1 w2 w3 (r .key) (r .fine) e)))
-      (λ e. rw e)
-
   -- a good spot's payload is its tree's
   pub payload-good : (x : Spot) → Good table n s x → payloadAt table (rowOf x) s ≡ ownPart (treeOf x)
-  unfolding Good
-  payload-good (spot (leaf kind w0 w1 w2 w3) row force) g =
-      let o = good-own table n s (spot (leaf kind w0 w1 w2 w3) row force) g in
-      at-row row (omega (arith, o .1, o .2, o .3)) (leafRow kind row w0 w1 w2 w3) (leaf-row table n s row (rowsOf force) kind w0 w1 w2 w3 (g .0))
-      ∙ leaf-part (length (rowsOf force)) kind w0 w1 w2 w3 row (g .0 .right)
-  payload-good (spot (refer number) row force) g =
-      let o = good-own table n s (spot (refer number) row force) g in
-      at-row row (omega (arith, o .1, o .2, o .3)) (referenceRow row number (getD (rowsOf force) number 0)) (refer-row table n s row (rowsOf force) number (g .0))
-      ∙ other-part kindReference (referenceRow row number (getD (rowsOf force) number 0)) refl reference-none
-  payload-good (spot (hold kind count ts) row force) g =
-      let o = good-own table n s (spot (hold kind count ts) row force) g in
-      at-row row (omega (arith, o .1, o .2, o .3)) (holderRow kind (row + (1 + sizes ts)) count) (hold-row table n s row (rowsOf force) kind count ts (g .0))
-      ∙ other-part kind (holderRow kind (row + (1 + sizes ts)) count) refl (hold-none s (length (rowsOf force)) kind count ts (g .0 .right))
-  payload-good (spot (declare count es t) row force) g =
-      let o = good-own table n s (spot (declare count es t) row force) g in
-      at-row row (omega (arith, o .1, o .2, o .3)) (declarationRow (row + (1 + (sizes es + size t))) count) (declare-row table n s row (rowsOf force) count es t (g .0))
-      ∙ other-part kindDeclaration (declarationRow (row + (1 + (sizes es + size t))) count) refl declaration-none
+  unfolding Good payloadAt
+  payload-good (spot t row force) g =
+      let R : List ℕ = rowsOf force in
+      let a = good-own table n s (spot t row force) g in
+      rw (lt-ltb row (lent table) (omega (arith, a .1, a .2, a .3)), stood-row table n s t row R (g .0)) (top-part s (length R) R t (g .0 .right))
 
   -- ---- a walk
 

@@ -1,45 +1,61 @@
--- What is neither a reference nor a declaration. Assumes nothing.
-use mathlib.Core.Path.{_≡_, sym, _∙_}
+-- The kind of a right tree's own row: a reference's, a declaration's, or neither. Assumes nothing.
+use mathlib.Core.Path.{_≡_, sym, ap, _∙_}
 use Prim.Native.Nat.{ℕ}
 use native.Mathlib.Omega.{arith}
+use lib.Dec.{eqb}
+use borrow.Author.Tests.{eqb-true}
 use mathlib.Core.Bool.{Bool, true, false}
 use mathlib.Core.List.{List}
-use Rattle.rows.specs.Kinds.{kindReference, kindDeclaration}
-use Rattle.format.specs.declared.head.Children.{Children}
-use Rattle.format.specs.Tree.{leaf, hold, Trees, many}
+use Rattle.lists.proofs.Tests.{and-first}
+use Rattle.rows.specs.Table.{Own}
+use Rattle.rows.specs.Kinds.{kindReference, kindDeclaration, kindKey}
+use Rattle.format.specs.Tree.{Tree, leaf, refer, hold, declare, foreign, damaged}
+use Rattle.format.proofs.Layouts.{ownAt}
 use Rattle.rules.specs.declared.shape.Shape.the-variants.{Leaf, Hold, Whole, Damaged}
-use Rattle.rules.specs.Fine.{LeafFine, plain, damaged, HoldFine, holder, foreign, KeyFine, Either, Fine}
-use Rattle.rules.proofs.Says.{reference-shape, declaration-shape}
-use Rattle.walks.proofs.Good.{Right, hold-fine}
+use Rattle.rules.specs.Shape.{spelt}
+use Rattle.rules.specs.Fine.{KeyFine, IfKey, Fine}
+use Rattle.rules.proofs.Says.{refer-own, declare-own, reference-shape, declaration-shape}
+use Rattle.walks.proofs.Good.{Right}
 
 -- a kind that is neither
 pub record Neither (kind : ℕ) : Type 0 where
   pub no-reference : kind ≡ kindReference → ⊥
   pub no-declaration : kind ≡ kindDeclaration → ⊥
 
-of-leaf : (s : List ℕ) (d k kind w0 w1 w2 w3 : ℕ) → LeafFine s d k kind w0 w1 w2 w3 → Neither kind
-of-leaf s d k kind w0 w1 w2 w3 (plain e) =
-    record { no-reference = reference-shape s kind w0 w1 w2 w3 Leaf e; no-declaration = declaration-shape s kind w0 w1 w2 w3 Leaf e }
-of-leaf s d k kind w0 w1 w2 w3 (damaged e r p v u) =
-    record { no-reference = reference-shape s kind w0 w1 w2 w3 Damaged e; no-declaration = declaration-shape s kind w0 w1 w2 w3 Damaged e }
+-- the kind that a tree's own row has
+abbrev pub KindIs : Tree → ℕ → Type 0
+KindIs (leaf o) kind = Neither kind
+KindIs (refer o) kind = kind ≡ kindReference
+KindIs (hold o ts) kind = Neither kind
+KindIs (declare o es t) kind = kind ≡ kindDeclaration
+KindIs (foreign o t) kind = Neither kind
+KindIs (damaged o) kind = Neither kind
 
-of-either : (s : List ℕ) (d k kind w0 w1 w2 w3 : ℕ) (b : Bool) → Either b (KeyFine s (leaf kind w0 w1 w2 w3)) (Fine s d k (leaf kind w0 w1 w2 w3)) → Neither kind
-unfolding KeyFine Fine
-of-either s d k kind w0 w1 w2 w3 true f =
-    record { no-reference = λ e. absurd (omega (arith, sym (f .0) ∙ e)); no-declaration = λ e. absurd (omega (arith, sym (f .0) ∙ e)) }
-of-either s d k kind w0 w1 w2 w3 false f = of-leaf s _ k kind w0 w1 w2 w3 (f .1)
+module _ (s : List ℕ) (k : ℕ) (registry : List ℕ) where
+  of-key : (t : Tree) → KeyFine s t → KindIs t (ownAt t registry .kind)
+  unfolding KeyFine
+  of-key (leaf o) f =
+      let e : o .kind ≡ kindKey = eqb-true (o .kind) kindKey (and-first (eqb (o .kind) kindKey) (spelt s (o .w0) (o .w1) (o .w2) (o .w3)) f) in
+      record { no-reference = λ q. absurd (omega (arith, sym e ∙ q)); no-declaration = λ q. absurd (omega (arith, sym e ∙ q)) }
+  of-key (refer o) f = absurd f
+  of-key (hold o ts) f = absurd f
+  of-key (declare o es t) f = absurd f
+  of-key (foreign o t) f = absurd f
+  of-key (damaged o) f = absurd f
 
-pub leaf-neither : (s : List ℕ) (k kind w0 w1 w2 w3 : ℕ) → Right s k (leaf kind w0 w1 w2 w3) → Neither kind
-leaf-neither s k kind w0 w1 w2 w3 r = of-either s (r .levels) k kind w0 w1 w2 w3 (r .key) (r .fine)
+  of-value : (d : ℕ) (t : Tree) → Fine s d k t → KindIs t (ownAt t registry .kind)
+  unfolding Fine
+  of-value d (leaf o) f = record { no-reference = reference-shape s o Leaf (f .1); no-declaration = declaration-shape s o Leaf (f .1) }
+  of-value d (refer o) f = ap (λ (p : Own). p .kind) (refer-own s o (f .1))
+  of-value d (hold o ts) f =
+      record { no-reference = reference-shape s o (Hold (f .1 .0)) (f .1 .1); no-declaration = declaration-shape s o (Hold (f .1 .0)) (f .1 .1) }
+  of-value d (declare o es t) f = ap (λ (p : Own). p .kind) (declare-own s o (f .1))
+  of-value d (foreign o t) f = record { no-reference = reference-shape s o Whole (f .1); no-declaration = declaration-shape s o Whole (f .1) }
+  of-value d (damaged o) f = record { no-reference = reference-shape s o Damaged (f .1); no-declaration = declaration-shape s o Damaged (f .1) }
 
-of-hold : (s : List ℕ) (k kind count m : ℕ) (c : Children) (k′ : ℕ) → HoldFine s k kind count m c k′ → Neither kind
-of-hold s k kind count m c k′ (holder h e num cs kk) =
-    record { no-reference = reference-shape s kind count 0 0 0 (Hold h) e; no-declaration = declaration-shape s kind count 0 0 0 (Hold h) e }
-of-hold s k kind count m c k′ (foreign e num cs kk) =
-    record { no-reference = reference-shape s kind count 0 0 0 Whole e; no-declaration = declaration-shape s kind count 0 0 0 Whole e }
-
-pub hold-neither : (s : List ℕ) (k kind count : ℕ) (ts : Trees) → Right s k (hold kind count ts) → Neither kind
-unfolding Fine
-hold-neither s k kind count ts r =
-    let f = hold-fine s k kind count ts r in
-    of-hold s k kind count (many ts) (f .1 .0) (f .1 .1) (f .1 .2)
+  pub kind-is : (t : Tree) → Right s k t → KindIs t (ownAt t registry .kind)
+  kind-is t r = of (r .key) (r .fine)
+    where
+      of : (b : Bool) → IfKey b (KeyFine s t) (Fine s (r .levels) k t) → KindIs t (ownAt t registry .kind)
+      of true f = of-key t f
+      of false f = of-value (r .levels) t f

@@ -7,22 +7,23 @@ use native.Mathlib.Nat.{add-zero}
 use native.Mathlib.Decide.{decLt}
 use mathlib.Core.List.{List}
 use lib.ListN.{length, getD}
-use borrow.Author.Tests.{lt-ltb, le-leb, ne-eqb}
+use borrow.Author.Tests.{lt-ltb, le-leb, eq-eqb, ne-eqb}
 use Rattle.rows.specs.declared.row.Row.{Row}
 use Rattle.rows.specs.Table.{rowAt, lent}
-use Rattle.rows.specs.Kinds.{kindReference, kindDeclaration, leafRow, holderRow, referenceRow, declarationRow}
-use Rattle.format.specs.Tree.{Tree, leaf, refer, hold, declare, Trees, none, more, many, size, sizes}
-use Rattle.format.proofs.Layouts.{size-pos}
-use Rattle.rules.specs.Fine.{Fine, Stands}
+use Rattle.rows.specs.Kinds.{kindReference, kindDeclaration}
+use Rattle.format.specs.Tree.{Tree, leaf, refer, hold, declare, foreign, damaged, Trees, none, more, many, size, sizes}
+use Rattle.format.specs.Value.{inForeign}
+use Rattle.format.proofs.Layouts.{size-pos, ownAt, topRow}
+use Rattle.rules.specs.Fine.{KeyFine, Fine, Stands}
 use Rattle.resolve.specs.declared.moved.Move.{Move}
 use Rattle.resolve.specs.declared.moved.Move.the-variants as go
 use Rattle.resolve.specs.declared.resolved.Resolved.{Resolved}
 use Rattle.resolve.specs.declared.resolved.Resolved.the-variants.{At}
 use Rattle.resolve.specs.Resolve.{valueRow, moveFrom, moveAt, chased, chase, resolve}
-use Rattle.walks.specs.Spots.{Spot, spot, Spots, nil, cons, rowOf, behind, held, declared, children}
-use Rattle.walks.proofs.Good.{rowsOf, Before, Good, Goods, declare-fine, children-good}
-use Rattle.walks.proofs.Neither.{Neither, leaf-neither, hold-neither}
-use Rattle.walks.proofs.Walked.{refer-known, good-own, leaf-row, refer-row, hold-row, declare-row, root-good}
+use Rattle.walks.specs.Spots.{Spot, spot, Spots, nil, cons, rowOf, rowsOf, behind, front, forBody, held, declared, children}
+use Rattle.walks.proofs.Good.{Before, Good, Goods, value-fine, children-good}
+use Rattle.walks.proofs.Neither.{Neither, kind-is}
+use Rattle.walks.proofs.Walked.{refer-known, good-own, stood-row, root-good}
 
 -- ---- weights
 
@@ -36,50 +37,60 @@ total (cons x xs) = rowsIn x + total xs
 abbrev weight : Spot → ℕ
 weight (spot t row force) = size t + total force
 
--- each entry in force weighs no more than all of them have rows
+-- each entry in force weighs no more than it and those before it have rows: `m` of them stand before these
 unfoldable mutual
   Snug : Spot → Type 0
-  Snug (spot t row force) = Snugs (total force) force
+  Snug (spot t row force) = Snugs 0 force
 
   Snugs : ℕ → Spots → Type 0
   Snugs m nil = Unit {0}
-  Snugs m (cons x xs) = (weight x ≤ m) × Snug x × Snugs m xs
+  Snugs m (cons x xs) = (weight x ≤ m + rowsIn x) × Snug x × Snugs (m + rowsIn x) xs
+
+-- none of these weighs more than m
+unfoldable Light : ℕ → Spots → Type 0
+Light m nil = Unit {0}
+Light m (cons x xs) = (weight x ≤ m) × Snug x × Light m xs
 
 total-behind : (xs : Spots) (x : Spot) → total (behind xs x) ≡ total xs + rowsIn x
 unfolding behind
 total-behind nil x = omega arith
 total-behind (cons y ys) x = omega (arith, total-behind ys x)
 
-snugs-behind : (m m′ : ℕ) (xs : Spots) (x : Spot) → m ≤ m′ → Snugs m xs → weight x ≤ m′ → Snug x → Snugs m′ (behind xs x)
+total-front : (k : ℕ) (xs : Spots) → total (front k xs) ≤ total xs
+unfolding front
+total-front zero xs = omega arith
+total-front (suc k) nil = omega arith
+total-front (suc k) (cons x xs) = omega (arith, total-front k xs)
+
+snugs-behind : (m : ℕ) (xs : Spots) (x : Spot) → Snugs m xs → weight x ≤ m + total xs + rowsIn x → Snug x → Snugs m (behind xs x)
 unfolding behind Snug
-snugs-behind m m′ nil x h g w k = (w, k, tt)
-snugs-behind m m′ (cons y ys) x h g w k = (omega (arith, g .0), g .1, snugs-behind m m′ ys x h (g .2) w k)
+snugs-behind m nil x g w k = (omega arith, k, tt)
+snugs-behind m (cons y ys) x g w k = (g .0, g .1, snugs-behind (m + rowsIn y) ys x (g .2) (omega arith) k)
+
+snugs-front : (m k : ℕ) (xs : Spots) → Snugs m xs → Snugs m (front k xs)
+unfolding front Snug
+snugs-front m zero xs g = tt
+snugs-front m (suc k) nil g = tt
+snugs-front m (suc k) (cons x xs) g = (g .0, g .1, snugs-front (m + rowsIn x) k xs (g .2))
+
+snugs-light : (m a : ℕ) (xs : Spots) → Snugs m xs → m + total xs ≤ a → Light a xs
+unfolding Snug Light
+snugs-light m a nil g h = tt
+snugs-light m a (cons x xs) g h = (omega (arith, g .0), g .1, snugs-light (m + rowsIn x) a xs (g .2) (omega arith))
 
 -- a holder's children
-held-snug : (ts : Trees) (row m : ℕ) (force : Spots) → Snugs (total force) force → total force + sizes ts ≤ m → Snugs m (held ts row force)
-unfolding held Snug size
-held-snug none row m force g h = tt
-held-snug (more t ts) row m force g h = (omega arith, g, held-snug ts (row + size t) m force g (omega arith))
+held-light : (ts : Trees) (row m : ℕ) (force : Spots) → Snugs 0 force → total force + sizes ts ≤ m → Light m (held ts row force)
+unfolding held Snug Light size
+held-light none row m force g h = tt
+held-light (more t ts) row m force g h = (omega arith, g, held-light ts (row + size t) m force g (omega arith))
 
 -- entries and the value behind them
-declared-snug : (es : Trees) (t : Tree) (row m : ℕ) (force : Spots) → Snugs (total force) force → total force + (sizes es + size t) ≤ m → Snugs m (declared es t row force)
-unfolding declared Snug size
-declared-snug none t row m force g h = (omega arith, g, tt)
-declared-snug (more e es) t row m force g h =
+declared-light : (es : Trees) (t : Tree) (row m : ℕ) (force : Spots) → Snugs 0 force → total force + (sizes es + size t) ≤ m → Light m (declared es t row force)
+unfolding declared Snug Light size
+declared-light none t row m force g h = (omega arith, g, tt)
+declared-light (more e es) t row m force g h =
     let x : Spot = spot e row force in
-    let k : total (behind force x) ≡ total force + size e = total-behind force x in (
-      omega arith,
-      g,
-      declared-snug es t (row + size e) m (behind force x)
-          (subst (λ (y : ℕ). Snugs y (behind force x)) (sym k) (snugs-behind (total force) (total force + size e) force x (omega arith) g (omega arith) g)) (omega arith),
-    )
-
-children-snug : (x : Spot) → Snug x → Snugs (weight x - 1) (children x)
-unfolding children Snug size
-children-snug (spot (leaf kind w0 w1 w2 w3) row force) g = tt
-children-snug (spot (refer number) row force) g = tt
-children-snug (spot (hold kind count ts) row force) g = held-snug ts (row + 1) (1 + sizes ts + total force - 1) force g (omega arith)
-children-snug (spot (declare count es t) row force) g = declared-snug es t (row + 1) (1 + (sizes es + size t) + total force - 1) nil tt (omega arith)
+    (omega arith, g, declared-light es t (row + size e) m (behind force x) (snugs-behind 0 force x g (omega arith) g) (omega (arith, total-behind force x)))
 
 -- ---- every row is some spot's
 
@@ -106,34 +117,34 @@ module _ (table : List ℕ) (n : ℕ) (s : List ℕ) (m r : ℕ) where
       of (yes q) = f q
       of (no q) = h (omega arith)
 
-  snugs-more : (a : ℕ) (xs : Spots) → a ≤ m → Snugs a xs → Snugs m xs
-  unfolding Snug
-  snugs-more a nil h k = tt
-  snugs-more a (cons x xs) h k = (omega (arith, k .0), k .1, snugs-more a xs h (k .2))
-
   -- how a tree is searched
   abbrev Search : Tree → Type 0
   Search t = (row : ℕ) (force : Spots) → Good table n s (spot t row force) → Snug (spot t row force) → size t + total force ≤ m → row ≤ r → r < row + size t → Found table n s m r
 
   mutual
-    unfolding children held declared Good Snug size
+    unfolding children held declared Good Snug Light size
 
     find : (t : Tree) → Search t
-    find (leaf kind w0 w1 w2 w3) row force g k l lo hi = record { there = spot (leaf kind w0 w1 w2 w3) row force; is = omega arith; good = g; snug = k; light = l }
-    find (refer number) row force g k l lo hi = record { there = spot (refer number) row force; is = omega arith; good = g; snug = k; light = l }
-    find (hold kind count ts) row force g k l lo hi =
-        let x : Spot = spot (hold kind count ts) row force in
-        pick x g k l lo (λ h. find-held ts (row + 1) force (children-good table n s x g) (held-snug ts (row + 1) m force k (omega arith)) h (omega arith))
-    find (declare count es t) row force g k l lo hi =
-        let x : Spot = spot (declare count es t) row force in
-        pick x g k l lo (λ h. find-declared es t (find t) (row + 1) nil (children-good table n s x g) (declared-snug es t (row + 1) m nil tt (omega arith)) h (omega arith))
+    find (leaf o) row force g k l lo hi = pick (spot (leaf o) row force) g k l lo (λ h. absurd (omega arith))
+    find (refer o) row force g k l lo hi = pick (spot (refer o) row force) g k l lo (λ h. absurd (omega arith))
+    find (hold o ts) row force g k l lo hi =
+        let x : Spot = spot (hold o ts) row force in
+        pick x g k l lo (λ h. find-held ts (row + 1) force (children-good table n s x g) (held-light ts (row + 1) m force k (omega arith)) h (omega arith))
+    find (declare o es t) row force g k l lo hi =
+        let x : Spot = spot (declare o es t) row force in
+        pick x g k l lo (λ h. find-declared es t (find t) (row + 1) nil (children-good table n s x g) (declared-light es t (row + 1) m nil tt (omega arith)) h (omega arith))
+    find (foreign o t) row force g k l lo hi =
+        let x : Spot = spot (foreign o t) row force in
+        let i : ℕ = inForeign (length (rowsOf force)) in
+        pick x g k l lo (λ h. find t (row + 1) (forBody force) (children-good table n s x g .0) (snugs-front 0 i force k) (omega (arith, total-front i force)) h (omega arith))
+    find (damaged o) row force g k l lo hi = pick (spot (damaged o) row force) g k l lo (λ h. absurd (omega arith))
 
-    find-held : (ts : Trees) (row : ℕ) (force : Spots) → Goods table n s (held ts row force) → Snugs m (held ts row force) → row ≤ r → r < row + sizes ts → Found table n s m r
+    find-held : (ts : Trees) (row : ℕ) (force : Spots) → Goods table n s (held ts row force) → Light m (held ts row force) → row ≤ r → r < row + sizes ts → Found table n s m r
     find-held none row force g k lo hi = absurd (omega arith)
     find-held (more t ts) row force g k lo hi =
         either (row + size t) (λ h. find t row force (g .0) (k .1) (k .0) lo h) (λ h. find-held ts (row + size t) force (g .1) (k .2) h (omega arith))
 
-    find-declared : (es : Trees) (t : Tree) → Search t → (row : ℕ) (force : Spots) → Goods table n s (declared es t row force) → Snugs m (declared es t row force) → row ≤ r
+    find-declared : (es : Trees) (t : Tree) → Search t → (row : ℕ) (force : Spots) → Goods table n s (declared es t row force) → Light m (declared es t row force) → row ≤ r
         → r < row + (sizes es + size t) → Found table n s m r
     find-declared none t own row force g k lo hi = own row force (g .0) (k .1) (k .0) lo (omega arith)
     find-declared (more e es) t own row force g k lo hi =
@@ -175,17 +186,17 @@ module _ (table : List ℕ) (n : ℕ) (s : List ℕ) where
       (value-right es t (row + size e) end (behind force (spot e row force)) (g .1) (omega arith) ∙ ap go.To q)
 
   -- the last of them
-  declared-last : (es : Trees) (t : Tree) (row m : ℕ) (force : Spots) → Goods table n s (declared es t row force) → Snugs m (declared es t row force) → Found table n s m (row + sizes es)
-  unfolding declared Good Snug size
+  declared-last : (es : Trees) (t : Tree) (row m : ℕ) (force : Spots) → Goods table n s (declared es t row force) → Light m (declared es t row force) → Found table n s m (row + sizes es)
+  unfolding declared Good Light size
   declared-last none t row m force g k = record { there = spot t row force; is = sym (add-zero row); good = g .0; snug = k .1; light = k .0 }
   declared-last (more e es) t row m force g k =
       let q : row + size e + sizes es ≡ row + (size e + sizes es) = omega arith in
       subst (Found table n s m) q (declared-last es t (row + size e) m (behind force (spot e row force)) (g .1) (k .2))
 
   -- an entry in force
-  entry-found : (number m row : ℕ) (xs : Spots) → number < length (rowsOf xs) → Goods table n s xs → Before row xs → Snugs m xs
+  entry-found : (number m row : ℕ) (xs : Spots) → number < length (rowsOf xs) → Goods table n s xs → Before row xs → Light m xs
       → Found table n s m (getD (rowsOf xs) number 0) × (getD (rowsOf xs) number 0 < row)
-  unfolding Good Snug Before
+  unfolding Good Light Before
   entry-found number m row nil l g b k = absurd (omega arith)
   entry-found zero m row (cons x xs) l g b k =
       let o = good-own table n s x (g .0) in
@@ -197,39 +208,43 @@ module _ (table : List ℕ) (n : ℕ) (s : List ℕ) where
     stop : moveAt table n (rowOf x) ≡ go.Stop → Neither (rowAt table (rowOf x) .kind) → Moves x
     on : (row : ℕ) → moveAt table n (rowOf x) ≡ go.To row → Found table n s (weight x - 1) row → Moves x
 
+  rests : (t : Tree) (row : ℕ) (force : Spots) → Good table n s (spot t row force) → Neither (ownAt t (rowsOf force) .kind) → Moves (spot t row force)
+  unfolding Good
+  rests t row force g z =
+      let a = good-own table n s (spot t row force) g in
+      let w : Row = topRow t row (rowsOf force) in
+      let e : rowAt table row ≡ w = stood-row table n s t row (rowsOf force) (g .0) in
+      stop (at-move row (omega (arith, a .1, a .2)) w e ∙ neither-stop row w z) (subst (λ (r : Row). Neither (r .kind)) (sym e) z)
+
   moves : (x : Spot) → Good table n s x → Snug x → Moves x
-  unfolding Good Snug size Fine declared children
-  moves (spot (leaf kind w0 w1 w2 w3) row force) g k =
-      let o = good-own table n s (spot (leaf kind w0 w1 w2 w3) row force) g in
-      let w : Row = leafRow kind row w0 w1 w2 w3 in
-      let e : rowAt table row ≡ w = leaf-row table n s row (rowsOf force) kind w0 w1 w2 w3 (g .0) in
-      let z : Neither kind = leaf-neither s (length (rowsOf force)) kind w0 w1 w2 w3 (g .0 .right) in
-      stop (at-move row (omega (arith, o .1, o .2)) w e ∙ neither-stop row w z) (subst (λ (r : Row). Neither (r .kind)) (sym e) z)
-  moves (spot (refer number) row force) g k =
-      let o = good-own table n s (spot (refer number) row force) g in
+  unfolding Good Snug size KeyFine Fine declared children
+  moves (spot (leaf o) row force) g k = let R : List ℕ = rowsOf force in rests (leaf o) row force g (kind-is s (length R) R (leaf o) (g .0 .right))
+  moves (spot (refer o) row force) g k =
+      let a = good-own table n s (spot (refer o) row force) g in
       let R : List ℕ = rowsOf force in
-      let w : Row = referenceRow row number (getD R number 0) in
-      let f = entry-found number (total force) row force (refer-known s (length R) number (g .0 .right)) (g .2) (g .1) k in
+      let e : ℕ = getD R (o .w0) 0 in
+      let f = entry-found (o .w0) (total force) row force (refer-known s (length R) o (g .0 .right)) (g .2) (g .1) (snugs-light 0 (total force) force k (omega arith)) in
       let q : total force ≡ 1 + total force - 1 = omega arith in
-      on (getD R number 0)
-      (at-move row (omega (arith, o .1, o .2)) w (refer-row table n s row R number (g .0)) ∙ rw (lt-ltb (getD R number 0) row (f .1)))
-      (subst (λ (y : ℕ). Found table n s y (getD R number 0)) q (f .0))
-  moves (spot (hold kind count ts) row force) g k =
-      let o = good-own table n s (spot (hold kind count ts) row force) g in
-      let w : Row = holderRow kind (row + (1 + sizes ts)) count in
-      let e : rowAt table row ≡ w = hold-row table n s row (rowsOf force) kind count ts (g .0) in
-      let z : Neither kind = hold-neither s (length (rowsOf force)) kind count ts (g .0 .right) in
-      stop (at-move row (omega (arith, o .1, o .2)) w e ∙ neither-stop row w z) (subst (λ (r : Row). Neither (r .kind)) (sym e) z)
-  moves (spot (declare count es t) row force) g k =
-      let x : Spot = spot (declare count es t) row force in
-      let o = good-own table n s x g in
+      on e
+      (at-move row (omega (arith, a .1, a .2)) (topRow (refer o) row R) (stood-row table n s (refer o) row R (g .0))
+      ∙ rw (eq-eqb (o .kind) kindReference (kind-is s (length R) R (refer o) (g .0 .right)), lt-ltb e row (f .1)))
+      (subst (λ (y : ℕ). Found table n s y e) q (f .0))
+  moves (spot (hold o ts) row force) g k = let R : List ℕ = rowsOf force in rests (hold o ts) row force g (kind-is s (length R) R (hold o ts) (g .0 .right))
+  moves (spot (declare o es t) row force) g k =
+      let x : Spot = spot (declare o es t) row force in
+      let a = good-own table n s x g in
+      let R : List ℕ = rowsOf force in
       let end : ℕ = row + (1 + (sizes es + size t)) in
-      let w : Row = declarationRow end count in
-      let f = declare-fine s (length (rowsOf force)) count es t (g .0 .right) in
+      let m : ℕ = 1 + (sizes es + size t) + total force - 1 in
+      let f = value-fine s (length R) (declare o es t) (λ y. y) (g .0 .right) in
+      let is : o .kind ≡ kindDeclaration = kind-is s (length R) R (declare o es t) (g .0 .right) in
       let c = value-right es t (row + 1) end nil (children-good table n s x g) (omega arith) in
       on (row + 1 + sizes es)
-      (at-move row (omega (arith, o .1, o .2)) w (declare-row table n s row (rowsOf force) count es t (g .0)) ∙ ap (λ (y : ℕ). valueRow table n end y (row + 1)) (sym (f .2)) ∙ c)
-      (declared-last es t (row + 1) (1 + (sizes es + size t) + total force - 1) nil (children-good table n s x g) (declared-snug es t (row + 1) (1 + (sizes es + size t) + total force - 1) nil tt (omega arith)))
+      (at-move row (omega (arith, a .1, a .2)) (topRow (declare o es t) row R) (stood-row table n s (declare o es t) row R (g .0))
+      ∙ rw is (ap (λ (y : ℕ). valueRow table n end y (row + 1)) (sym (f .2)) ∙ c))
+      (declared-last es t (row + 1) m nil (children-good table n s x g) (declared-light es t (row + 1) m nil tt (omega arith)))
+  moves (spot (foreign o t) row force) g k = let R : List ℕ = rowsOf force in rests (foreign o t) row force g (kind-is s (length R) R (foreign o t) (g .0 .right))
+  moves (spot (damaged o) row force) g k = let R : List ℕ = rowsOf force in rests (damaged o) row force g (kind-is s (length R) R (damaged o) (g .0 .right))
 
   weight-pos : (x : Spot) → 0 < weight x
   weight-pos (spot t row force) = omega (arith, size-pos t)
@@ -270,6 +285,13 @@ module _ (table : List ℕ) (n : ℕ) (s : List ℕ) where
   ended (suc left) x done g k l = one-more left x done g l (λ y h j m. ended left y (done + 1) h j m) (moves x g k)
 
 -- ---- a table that passed the check
+
+-- every row is a good spot's
+pub row-good : (depth : ℕ) (table : List ℕ) (n : ℕ) (s : List ℕ) (t : Tree) → Stands depth table n s t → (row : ℕ) → row < n → (x : Spot) × (rowOf x ≡ row) × Good table n s x
+unfolding Snug
+row-good depth table n s t st row h =
+    let f = find table n s n row t 0 nil (root-good depth table n s t st) tt (omega (arith, st .rows)) (omega arith) (omega (arith, st .rows)) in
+    (f .there, f .is, f .good)
 
 -- resolving from any row ends, in fewer moves than rows, at a row that is neither a reference nor a declaration
 pub resolve-ends : (depth : ℕ) (table : List ℕ) (n : ℕ) (s : List ℕ) (t : Tree) → Stands depth table n s t → (row : ℕ) → row < n → Ended table n n (resolve table n row)

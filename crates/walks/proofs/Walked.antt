@@ -3,46 +3,35 @@ use mathlib.Core.Path.{_≡_, refl, sym, ap, _∙_}
 use Prim.Native.Nat.{ℕ, zero, suc, _+_, _*_, _≤_, _<_}
 use native.Mathlib.Omega.{arith}
 use native.Mathlib.Nat.{add-zero}
-use mathlib.Core.Bool.{Bool, true, false, cond}
-use mathlib.Core.List.{List, [], _∷_, _++_, append-assoc}
+use mathlib.Core.Bool.{true, false, cond}
+use mathlib.Core.List.{List, [], _∷_}
 use lib.ListN.{length, getD, drop}
 use lib.Dec.{ltb, eqb}
-use borrow.Author.Tests.{lt-ltb, le-ltb, le-leb, ne-eqb}
+use borrow.Author.Tests.{lt-ltb, le-ltb, le-leb, eq-eqb, ne-eqb}
 use Rattle.rows.specs.declared.row.Row.{Row}
-use Rattle.rows.specs.Table.{wordsPerRow, wordsOf, rowAt, lent}
-use Rattle.rows.specs.Kinds.{kindReference, leafRow, holderRow, referenceRow, declarationRow}
-use Rattle.rows.proofs.Rows.{row-words, row-drop, row-append-left}
-use Rattle.format.specs.Tree.{Tree, leaf, refer, hold, declare, Trees, none, more, size, sizes}
-use Rattle.format.specs.Layout.{layout, layouts, entries}
-use Rattle.format.proofs.Layouts.{length-layout, layout-end, size-pos}
-use Rattle.rules.specs.Fine.{KeyFine, Either, Fine, Stands}
+use Rattle.rows.specs.Table.{wordsPerRow, Own, rowAt, lent}
+use Rattle.rows.specs.Kinds.{kindReference}
+use Rattle.format.specs.Tree.{Tree, leaf, refer, hold, declare, foreign, damaged, Trees, none, more, size, sizes}
+use Rattle.format.proofs.Layouts.{size-pos, ownAt, topRow, top-at}
+use Rattle.rules.specs.Fine.{KeyFine, Fine, Stands}
 use Rattle.rules.proofs.Exact.{laid-out}
 use Rattle.walker.specs.declared.step.Step.{Step}
 use Rattle.walker.specs.declared.step.Step.the-variants.{To, NoStep, BadTable}
 use Rattle.walker.specs.Walk.{standing, startOf, genuine, stepIn, stepOn, stepAlong}
-use Rattle.walks.specs.Spots.{Spot, spot, Spots, nil, cons, rowOf, endOf, behind, entry, held, declared, children, Way, inward, onward, alongside, referred, treeStep, boundOf, told, goOn, treeWalk, stepBy, goTo, tableWalk}
-use Rattle.walks.proofs.Good.{rowsOf, Right, Own, Before, Good, Goods, Linked, children-good, children-linked}
-use Rattle.walks.proofs.Neither.{leaf-neither, hold-neither}
-
-refer-of : (s : List ℕ) (d k number : ℕ) (b : Bool) → Either b (KeyFine s (refer number)) (Fine s d k (refer number)) → number < k
-unfolding KeyFine Fine
-refer-of s d k number true f = absurd f
-refer-of s d k number false f = f .1
+use Rattle.walks.specs.Spots.{Spot, spot, Spots, nil, cons, rowOf, endOf, rowsOf, behind, entry, held, declared, children, Way, inward, onward, alongside, referred, treeStep, boundOf, told, goOn, treeWalk, stepBy, goTo, tableWalk}
+use Rattle.walks.proofs.Good.{Right, Stood, Before, Good, Goods, Linked, value-fine, children-good, children-linked}
+use Rattle.walks.proofs.Neither.{kind-is}
 
 -- a reference's entry is in force
-pub refer-known : (s : List ℕ) (k number : ℕ) → Right s k (refer number) → number < k
-refer-known s k number r = refer-of s (r .levels) k number (r .key) (r .fine)
+pub refer-known : (s : List ℕ) (k : ℕ) (o : Own) → Right s k (refer o) → o .w0 < k
+unfolding KeyFine Fine
+refer-known s k o r = value-fine s k (refer o) (λ f. f) r .3
 
 -- ---- rows
 
 module _ (table : List ℕ) (n : ℕ) (s : List ℕ) where
-  pub own-row : (t : Tree) (row : ℕ) (registry : List ℕ) → Own table n s t row registry → rowAt table row ≡ rowAt (layout t row registry) 0
-  own-row t row registry o =
-      ap (rowAt table) (sym (add-zero row)) ∙ sym (row-drop table row 0) ∙ ap (λ (l : List ℕ). rowAt l 0) (o .words)
-      ∙ row-append-left (layout t row registry) (o .rest) 0 (omega (arith, length-layout t row registry, size-pos t))
-
-  pub own-end : (t : Tree) (row : ℕ) (registry : List ℕ) → Own table n s t row registry → rowAt table row .end ≡ row + size t
-  own-end t row registry o = ap (λ (r : Row). r .end) (own-row t row registry o) ∙ layout-end t row registry
+  pub stood-row : (t : Tree) (row : ℕ) (registry : List ℕ) → Stood table n s t row registry → rowAt table row ≡ topRow t row registry
+  stood-row t row registry a = top-at table t row registry (a .rest) (a .words)
 
   -- ---- where one stands
 
@@ -53,7 +42,7 @@ module _ (table : List ℕ) (n : ℕ) (s : List ℕ) where
 
   pub good-own : (x : Spot) → Good table n s x → (rowAt table (rowOf x) .end ≡ endOf x) × (rowOf x < endOf x) × (endOf x ≤ n) × (n ≤ lent table)
   unfolding Good
-  good-own (spot t row force) g = (own-end t row (rowsOf force) (g .0), omega (arith, size-pos t), g .0 .within, g .0 .room)
+  good-own (spot t row force) g = (ap (λ (r : Row). r .end) (stood-row t row (rowsOf force) (g .0)), omega (arith, size-pos t), g .0 .within, g .0 .room)
 
   pub bound-in : (xs : Spots) (x : Spot) → Good table n s x → Goods table n s xs → Linked (endOf x) xs → (endOf x ≤ boundOf x xs) × (boundOf x xs ≤ n)
   unfolding boundOf Linked Good
@@ -92,13 +81,15 @@ module _ (table : List ℕ) (n : ℕ) (s : List ℕ) where
 
   children-end : (x : Spot) → lastEnd (rowOf x + 1) (children x) ≡ endOf x
   unfolding children held declared boundOf size
-  children-end (spot (leaf kind w0 w1 w2 w3) row force) = refl
-  children-end (spot (refer number) row force) = refl
-  children-end (spot (hold kind count none) row force) = omega arith
-  children-end (spot (hold kind count (more t ts)) row force) = bound-held ts (row + 1 + size t) force (spot t (row + 1) force) refl ∙ omega arith
-  children-end (spot (declare count none t) row force) = omega arith
-  children-end (spot (declare count (more e es) t) row force) =
+  children-end (spot (leaf o) row force) = refl
+  children-end (spot (refer o) row force) = refl
+  children-end (spot (hold o none) row force) = omega arith
+  children-end (spot (hold o (more t ts)) row force) = bound-held ts (row + 1 + size t) force (spot t (row + 1) force) refl ∙ omega arith
+  children-end (spot (declare o none t) row force) = omega arith
+  children-end (spot (declare o (more e es) t) row force) =
       bound-declared es t (row + 1 + size e) (behind nil (spot e (row + 1) nil)) (spot e (row + 1) nil) ∙ omega arith
+  children-end (spot (foreign o t) row force) = omega arith
+  children-end (spot (damaged o) row force) = refl
 
   in-of : (row : ℕ) (ys : Spots) → Linked (row + 1) ys → Goods table n s ys
       → cond (ltb (row + 1) (lastEnd (row + 1) ys)) (To (row + 1) (lastEnd (row + 1) ys)) NoStep ≡ told ys
@@ -122,49 +113,29 @@ module _ (table : List ℕ) (n : ℕ) (s : List ℕ) where
   entry-at zero (cons x xs) row l g b = (x, refl, refl, g .0, b .0)
   entry-at (suc k) (cons x xs) row l g b = entry-at k xs row (omega arith) (g .1) (b .1)
 
-  -- a row's words, by its tree
-  module _ (row : ℕ) (registry : List ℕ) where
-    pub leaf-row : (kind w0 w1 w2 w3 : ℕ) → Own table n s (leaf kind w0 w1 w2 w3) row registry → rowAt table row ≡ leafRow kind row w0 w1 w2 w3
-    unfolding layout
-    leaf-row kind w0 w1 w2 w3 o = row-words table row (leafRow kind row w0 w1 w2 w3) (o .rest) (o .words)
-
-    pub refer-row : (number : ℕ) → Own table n s (refer number) row registry → rowAt table row ≡ referenceRow row number (getD registry number 0)
-    unfolding layout
-    refer-row number o = row-words table row (referenceRow row number (getD registry number 0)) (o .rest) (o .words)
-
-    pub hold-row : (kind count : ℕ) (ts : Trees) → Own table n s (hold kind count ts) row registry → rowAt table row ≡ holderRow kind (row + (1 + sizes ts)) count
-    unfolding layout
-    hold-row kind count ts o =
-        let w : Row = holderRow kind (row + (1 + sizes ts)) count in
-        let L : List ℕ = layouts ts false (row + 1) registry in
-        row-words table row w (L ++ o .rest) (o .words ∙ append-assoc (wordsOf w) L (o .rest))
-
-    pub declare-row : (count : ℕ) (es : Trees) (t : Tree) → Own table n s (declare count es t) row registry
-        → rowAt table row ≡ declarationRow (row + (1 + (sizes es + size t))) count
-    unfolding layout
-    declare-row count es t o =
-        let w : Row = declarationRow (row + (1 + (sizes es + size t))) count in
-        let A : List ℕ = layouts es true (row + 1) [] ++ layout t (row + 1 + sizes es) (entries es (row + 1) []) in
-        row-words table row w (A ++ o .rest) (o .words ∙ append-assoc (wordsOf w) A (o .rest))
-
   abbrev alongRow : ℕ → Row → Step
   alongRow row w = cond (eqb (w .kind) kindReference) (cond (ltb (w .w1) row) (To (w .w1) (rowAt table (w .w1) .end)) BadTable) NoStep
 
+  -- what is no reference leads nowhere
+  along-none : (t : Tree) (row : ℕ) (registry : List ℕ) → Stood table n s t row registry → (ownAt t registry .kind ≡ kindReference → ⊥) → alongRow row (rowAt table row) ≡ NoStep
+  along-none t row registry a never = rw (stood-row t row registry a, ne-eqb (ownAt t registry .kind) kindReference never)
+
   along-told : (x : Spot) → Good table n s x → alongRow (rowOf x) (rowAt table (rowOf x)) ≡ told (referred x)
   unfolding referred Good boundOf
-  along-told (spot (leaf kind w0 w1 w2 w3) row force) g =
-      rw (leaf-row row (rowsOf force) kind w0 w1 w2 w3 (g .0), ne-eqb kind kindReference (leaf-neither s (length (rowsOf force)) kind w0 w1 w2 w3 (g .0 .right) .no-reference))
-  along-told (spot (refer number) row force) g =
+  along-told (spot (leaf o) row force) g = let R : List ℕ = rowsOf force in along-none (leaf o) row R (g .0) (kind-is s (length R) R (leaf o) (g .0 .right) .no-reference)
+  along-told (spot (refer o) row force) g =
       let R : List ℕ = rowsOf force in
-      let e = entry-at number force row (refer-known s (length R) number (g .0 .right)) (g .2) (g .1) in
-      let o = good-own (e .0) (e .3) in
-      ap (alongRow row) (refer-row row R number (g .0))
-      ∙ ap (λ (i : ℕ). cond (ltb i row) (To i (rowAt table i .end)) BadTable) (e .2)
-      ∙ rw (lt-ltb (rowOf (e .0)) row (omega (arith, o .1, e .4)), o .0)
+      let e = entry-at (o .w0) force row (refer-known s (length R) o (g .0 .right)) (g .2) (g .1) in
+      let a = good-own (e .0) (e .3) in
+      ap (alongRow row) (stood-row (refer o) row R (g .0))
+      ∙ rw (eq-eqb (o .kind) kindReference (kind-is s (length R) R (refer o) (g .0 .right)), e .2, lt-ltb (rowOf (e .0)) row (omega (arith, a .1, e .4)), a .0)
       (ap told (sym (e .1)))
-  along-told (spot (hold kind count ts) row force) g =
-      rw (hold-row row (rowsOf force) kind count ts (g .0), ne-eqb kind kindReference (hold-neither s (length (rowsOf force)) kind count ts (g .0 .right) .no-reference))
-  along-told (spot (declare count es t) row force) g = rw (declare-row row (rowsOf force) count es t (g .0))
+  along-told (spot (hold o ts) row force) g = let R : List ℕ = rowsOf force in along-none (hold o ts) row R (g .0) (kind-is s (length R) R (hold o ts) (g .0 .right) .no-reference)
+  along-told (spot (declare o es t) row force) g =
+      let R : List ℕ = rowsOf force in
+      along-none (declare o es t) row R (g .0) (λ q. absurd (omega (arith, sym (kind-is s (length R) R (declare o es t) (g .0 .right)) ∙ q)))
+  along-told (spot (foreign o t) row force) g = let R : List ℕ = rowsOf force in along-none (foreign o t) row R (g .0) (kind-is s (length R) R (foreign o t) (g .0 .right) .no-reference)
+  along-told (spot (damaged o) row force) g = let R : List ℕ = rowsOf force in along-none (damaged o) row R (g .0) (kind-is s (length R) R (damaged o) (g .0 .right) .no-reference)
 
   module _ (x : Spot) (xs : Spots) (h : Here x xs) where
     b : (endOf x ≤ boundOf x xs) × (boundOf x xs ≤ n)
@@ -216,10 +187,12 @@ module _ (table : List ℕ) (n : ℕ) (s : List ℕ) where
 
   referred-here : (x : Spot) → Good table n s x → HereAll (referred x)
   unfolding referred Good
-  referred-here (spot (leaf kind w0 w1 w2 w3) row force) g = tt
-  referred-here (spot (refer number) row force) g = entry-here number force (g .2)
-  referred-here (spot (hold kind count ts) row force) g = tt
-  referred-here (spot (declare count es t) row force) g = tt
+  referred-here (spot (leaf o) row force) g = tt
+  referred-here (spot (refer o) row force) g = entry-here (o .w0) force (g .2)
+  referred-here (spot (hold o ts) row force) g = tt
+  referred-here (spot (declare o es t) row force) g = tt
+  referred-here (spot (foreign o t) row force) g = tt
+  referred-here (spot (damaged o) row force) g = tt
 
   pub step-right : (w : Way) (x : Spot) (xs : Spots) → Here x xs → stepBy table n w (standing (rowOf x) (boundOf x xs)) ≡ told (treeStep w x xs)
   unfolding stepBy treeStep

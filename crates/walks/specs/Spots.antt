@@ -3,7 +3,9 @@
 use Prim.Native.Nat.{ℕ, zero, suc, _+_, _≤_, _<_}
 use mathlib.Core.Bool.{cond}
 use mathlib.Core.List.{List, [], _∷_}
-use Rattle.format.specs.Tree.{Tree, leaf, refer, hold, declare, Trees, none, more, size}
+use lib.ListN.{length}
+use Rattle.format.specs.Tree.{Tree, leaf, refer, hold, declare, foreign, damaged, Trees, none, more, size}
+use Rattle.format.specs.Value.{inForeign}
 use Rattle.walker.specs.declared.standing.Standing.{Standing}
 use Rattle.walker.specs.declared.step.Step.{Step}
 use Rattle.walker.specs.declared.step.Step.the-variants.{To, NoStep, BadTable}
@@ -29,6 +31,11 @@ rowOf (spot t row force) = row
 abbrev pub endOf : Spot → ℕ
 endOf (spot t row force) = row + size t
 
+-- the rows of the entries in force
+abbrev pub rowsOf : Spots → List ℕ
+rowsOf nil = []
+rowsOf (cons x xs) = rowOf x ∷ rowsOf xs
+
 unfoldable pub behind : Spots → Spot → Spots
 behind nil x = cons x nil
 behind (cons y ys) x = cons y (behind ys x)
@@ -38,6 +45,16 @@ unfoldable pub entry : Spots → ℕ → Spots
 entry nil k = nil
 entry (cons x xs) zero = cons x nil
 entry (cons x xs) (suc k) = entry xs k
+
+-- the first k of them
+unfoldable pub front : ℕ → Spots → Spots
+front zero xs = nil
+front (suc k) nil = nil
+front (suc k) (cons x xs) = cons x (front k xs)
+
+-- "A foreign body is read as a document of its own, under the registry in force around it.": the entries in force in it, of those around it
+abbrev pub forBody : Spots → Spots
+forBody force = front (inForeign (length (rowsOf force))) force
 
 -- ---- children
 
@@ -53,10 +70,12 @@ declared none t row force = cons (spot t row force) nil
 declared (more e es) t row force = cons (spot e row force) (declared es t (row + size e) (behind force (spot e row force)))
 
 unfoldable pub children : Spot → Spots
-children (spot (leaf kind w0 w1 w2 w3) row force) = nil
-children (spot (refer number) row force) = nil
-children (spot (hold kind count ts) row force) = held ts (row + 1) force
-children (spot (declare count es t) row force) = declared es t (row + 1) nil
+children (spot (leaf o) row force) = nil
+children (spot (refer o) row force) = nil
+children (spot (hold o ts) row force) = held ts (row + 1) force
+children (spot (declare o es t) row force) = declared es t (row + 1) nil
+children (spot (foreign o t) row force) = cons (spot t (row + 1) (forBody force)) nil
+children (spot (damaged o) row force) = nil
 
 -- ---- steps in a tree: where one stands, and what stands behind it under the same holder
 
@@ -65,10 +84,12 @@ pub data Way : Type 0 where
 
 -- "Along: a reference's entry"
 unfoldable pub referred : Spot → Spots
-referred (spot (leaf kind w0 w1 w2 w3) row force) = nil
-referred (spot (refer number) row force) = entry force number
-referred (spot (hold kind count ts) row force) = nil
-referred (spot (declare count es t) row force) = nil
+referred (spot (leaf o) row force) = nil
+referred (spot (refer o) row force) = entry force (o .w0)
+referred (spot (hold o ts) row force) = nil
+referred (spot (declare o es t) row force) = nil
+referred (spot (foreign o t) row force) = nil
+referred (spot (damaged o) row force) = nil
 
 unfoldable pub treeStep : Way → Spot → Spots → Spots
 treeStep inward x xs = children x
@@ -132,7 +153,9 @@ AllInTable n (x ∷ xs) = InTable n x × AllInTable n xs
 
 -- a tree's own payload
 abbrev pub ownPart : Tree → Part
-ownPart (leaf kind w0 w1 w2 w3) = cond (hasPayload kind) (part w0 w1) (part 0 0)
-ownPart (refer number) = part 0 0
-ownPart (hold kind count ts) = part 0 0
-ownPart (declare count es t) = part 0 0
+ownPart (leaf o) = cond (hasPayload (o .kind)) (part (o .w0) (o .w1)) (part 0 0)
+ownPart (refer o) = part 0 0
+ownPart (hold o ts) = part 0 0
+ownPart (declare o es t) = part 0 0
+ownPart (foreign o t) = part 0 0
+ownPart (damaged o) = part 0 0

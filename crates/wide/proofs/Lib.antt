@@ -1,14 +1,10 @@
 pub mod Bodies
-pub mod Examples
 pub mod Families
 pub mod Nearness
 pub mod Numbers
-pub mod Promises
 pub mod Ranking
 pub mod Ranks
 pub mod Runs
 pub mod Sound
 pub mod Steps
-pub mod Variables
 pub mod Wides
-pub mod Writes

@@ -1,6 +1,4 @@
-pub mod Answer
 pub mod Body
-pub mod Examples
 pub mod Family
 pub mod Members
 pub mod Number

@@ -31,13 +31,6 @@ pub fn word_off(w: Wide) -> Wide
     }
 }
 
-// The lowest byte.
-pub fn low(w: Wide) -> u8
-    ensures { λ r. ⌜ r ≡ valueOf w % 256 ⌝ }
-{
-    (w.w0 % 256) as u8
-}
-
 // A body of no bytes: ones in every place, or none.
 pub fn filled(ones: bool) -> Wide
     ensures { λ r. ⌜ r ≡ wideOf (extended ones 0 0) ⌝ }

@@ -21,7 +21,7 @@ use Rattle.encode.specs.Encode.{encode}
 use Rattle.spell.specs.Own.{Inside}
 use Rattle.writer.specs.declared.written.Written.the-variants.{Done, BadTable, TooLarge, NoRoom}
 use Rattle.writer.specs.Written.{encoded, documentOf, written, outputAfter}
-use Rattle.writer.specs.Spells.{Spells, Spelt, Long, Fits, Laid}
+use Rattle.writer.specs.Contracts.{Spells, Spelt, Long, Fits, Laid}
 use Rattle.writer.proofs.Spelling.{inside-at, spelled-few}
 use Rattle.writer.proofs.Trees.{tree-spells}
 

@@ -12,7 +12,7 @@ use Rattle.rows.specs.Table.{rowAt, limit}
 use Rattle.plan.proofs.Forms.{double-whole}
 use Rattle.spell.specs.Own.{Inside, ownBytes, ownSize}
 use Rattle.spell.proofs.Shorts.{own-long, own-few}
-use Rattle.writer.specs.Spells.{Spells, none, next}
+use Rattle.writer.specs.Contracts.{Spells, none, next}
 
 -- the first row apart: its own bytes, its children's, and those behind its end
 pub record First (table s : List ℕ) (row stop : ℕ) (bytes : List ℕ) : Type 0 where

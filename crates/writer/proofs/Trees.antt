@@ -1,5 +1,4 @@
 -- The rows of a right tree spell its bytes. By induction on the tree. Assumes nothing.
-use Rattle.format.specs.Value.{isKey}
 use mathlib.Core.Path.{_≡_, refl, sym, ap, _∙_, subst}
 use mathlib.Core.Bool.{Bool, true, false, cond}
 use mathlib.Core.List.{List, [], _++_, append-nil, append-assoc}
@@ -7,38 +6,77 @@ use Prim.Native.Nat.{ℕ, _+_, _-_, _*_, _≤_, _<_}
 use native.Mathlib.Nat.{add-zero}
 use native.Mathlib.Omega.{arith}
 use lib.ListN.{length, getD, take, drop}
-use Rattle.wide.specs.Family.{form}
-use Rattle.wide.specs.Members.{referenceNumber}
 use Rattle.wide.proofs.Ranks.{apart}
 use Rattle.rows.specs.declared.row.Row.{Row}
-use Rattle.rows.specs.Table.{wordsPerRow, wordsOf, rowAt}
-use Rattle.rows.specs.Kinds.{leafRow, holderRow, referenceRow, declarationRow}
-use Rattle.rows.proofs.Rows.{length-words, row-words}
+use Rattle.rows.specs.Table.{wordsPerRow, Own, ownOf, rowAt}
+use Rattle.rows.specs.Kinds.{holderOwn, referenceOwn}
+use Rattle.format.specs.declared.head.Holder.{Holder}
+use Rattle.format.specs.declared.head.Holder.the-variants.{Array, Record, Map}
 use Rattle.format.specs.declared.head.Children.{Children}
-use Rattle.format.specs.declared.head.Children.the-variants.{Growing}
-use Rattle.format.specs.Tree.{Tree, leaf, refer, hold, declare, Trees, size, sizes}
+use Rattle.format.specs.declared.head.Children.the-variants.{Entries}
+use Rattle.format.specs.Tree.{Tree, leaf, refer, hold, declare, foreign, damaged, Trees, size, sizes}
 use Rattle.format.specs.Tree as trees
-use Rattle.format.specs.Layout.{layout, layouts, grown, entries}
-use Rattle.format.proofs.Layouts.{length-layout, length-layouts}
+use Rattle.format.specs.Value.{kindOf, childrenOf, inForeign, isKey}
+use Rattle.format.specs.Layout.{layout, layouts, grown, entries, inBody, aimed}
+use Rattle.format.proofs.Layouts.{length-layout, length-layouts, topRow, top-at, size-pos}
 use Rattle.rules.specs.declared.shape.Shape.the-variants as shape
-use Rattle.rules.specs.Shape.{named}
-use Rattle.rules.specs.Fine.{HoldFine, holder, foreign, KeyFine, Either, Fine, Fines}
-use Rattle.rules.proofs.Says.{spelt-within}
-use Rattle.rules.proofs.Regrow.{behind}
-use Rattle.encode.specs.Encode.{headFor, hasBytes, payload, encode, encodes}
-use Rattle.encode.proofs.Again.{told-of, hold-kind, whole-kind}
-use Rattle.encode.proofs.Alike.{leaf-inside}
-use Rattle.plan.specs.Own.{kindOf, ownHead}
+use Rattle.rules.specs.Shape.{named, shapeOf}
+use Rattle.rules.specs.Fine.{KeyFine, IfKey, Fine, Fines}
+use Rattle.rules.proofs.Says.{refer-own, hold-own, declare-own, foreign-own, damaged-inside}
+use Rattle.rules.proofs.Regrow.{behind, rest-at}
+use Rattle.encode.specs.Encode.{headOf, hasBytes, encode, encodes}
+use Rattle.encode.proofs.Again.{reference-head}
+use Rattle.encode.proofs.Alike.{leaf-inside, key-inside}
+use Rattle.plan.specs.Own.{ownHead}
 use Rattle.spell.specs.Own.{Inside, ownBytes}
-use Rattle.writer.specs.Spells.{Spells, none, next}
+use Rattle.writer.specs.Contracts.{Spells, none, next}
 use Rattle.writer.proofs.Spelling.{spells-append}
 
--- a holder has no bytes of the data
-hold-bare : (s : List ℕ) (k kind count n : ℕ) (c : Children) (k′ : ℕ) → HoldFine s k kind count n c k′ → hasBytes (named kind 0) ≡ false
-hold-bare s k kind count n c k′ (holder h e _ _ _) =
-    ap hasBytes (hold-kind (named kind 0) h (told-of s kind count 0 0 0 (shape.Hold h) e (λ z. let y : _≡_ {A = ℕ} 0 1 = cc in omega arith) .is))
-hold-bare s k kind count n c k′ (foreign e _ _ _) =
-    ap hasBytes (whole-kind (named kind 0) (told-of s kind count 0 0 0 shape.Whole e (λ z. let y : _≡_ {A = ℕ} 0 1 = cc in omega arith) .is))
+-- ---- rows without bytes of the data
+
+abbrev pub Bare : Own → Type 0
+Bare o = hasBytes (named o) ≡ false
+
+holder-bare : (h : Holder) (n : ℕ) → Bare (holderOwn (kindOf h) n)
+unfolding named
+holder-bare Array n = refl
+holder-bare Record n = refl
+holder-bare Map n = refl
+
+reference-bare : (number entry : ℕ) → Bare (referenceOwn number entry)
+unfolding named
+reference-bare number entry = refl
+
+module _ (s : List ℕ) (o : Own) where
+  pub hold-bare : (h : Holder) → shapeOf s o ≡ shape.Hold h → Bare o
+  hold-bare h e = subst Bare (sym (hold-own s o h e)) (holder-bare h (o .w0))
+
+  pub declare-bare : shapeOf s o ≡ shape.Declare → Bare o
+  unfolding named
+  declare-bare e = ap (λ (p : Own). hasBytes (named p)) (declare-own s o e)
+
+  pub foreign-bare : shapeOf s o ≡ shape.Whole → Bare o
+  unfolding named
+  foreign-bare e = ap (λ (p : Own). hasBytes (named p)) (foreign-own s o e)
+
+  module _ (e : shapeOf s o ≡ shape.Refer) (entry : ℕ) where
+    pub refer-bare : Bare (aimed o entry)
+    refer-bare = subst (λ (p : Own). Bare (aimed p entry)) (sym (refer-own s o e)) (reference-bare (o .w0) entry)
+
+    -- where its entry stands is not written
+    refer-head : headOf (aimed o entry) 0 ≡ headOf o 0
+    refer-head =
+        ap (λ (p : Own). headOf (aimed p entry) 0) (refer-own s o e) ∙ reference-head (o .w0) entry 0
+        ∙ sym (ap (λ (p : Own). headOf p 0) (refer-own s o e) ∙ reference-head (o .w0) (o .w1) 0)
+
+module _ (s : List ℕ) (w : Row) (bare : Bare (ownOf w)) where
+  bare-inside : Inside s w
+  unfolding Inside
+  bare-inside t = apart (hasBytes (named (ownOf w))) t bare
+
+  bare-bytes : (n : ℕ) → ownBytes s w n ≡ ownHead w n
+  unfolding ownBytes
+  bare-bytes n = ap (λ (b : Bool). ownHead w n ++ cond b (take (w .w1) (drop (w .w0) s)) []) bare ∙ append-nil (ownHead w n)
 
 module _ (table s : List ℕ) where
   -- ---- a row over its children
@@ -50,79 +88,70 @@ module _ (table s : List ℕ) where
       (λ up i c q.
       next row _ bytes body [] up (omega arith) i c (none _ _ [] refl refl) (q ∙ ap (λ (l : List ℕ). ownBytes s (rowAt table row) (length body) ++ l) (sym (append-nil body))))
 
-  -- one without children
-  leaf-spells : (row : ℕ) (w : Row) (bytes : List ℕ) → rowAt table row ≡ w → w .end ≡ row + 1 → Inside s w → bytes ≡ ownBytes s w 0 → Spells table s row (row + 1) bytes
-  leaf-spells row w bytes e l i q =
-      subst (λ (x : ℕ). Spells table s row x bytes) l
-      (row-spells row w [] bytes e (omega (arith, l)) i (none (row + 1) (w .end) [] (sym l) refl) (q ∙ sym (append-nil (ownBytes s w 0))))
+  module _ (t : Tree) (row : ℕ) (registry rest : List ℕ) (h : drop (wordsPerRow * row) table ≡ layout t row registry ++ rest) where
+    abbrev w : Row
+    w = topRow t row registry
 
-  -- one over rows whose bytes are `body`, with no bytes of the data
-  over-spells : (row : ℕ) (w : Row) (body head : List ℕ) → rowAt table row ≡ w → row < w .end → hasBytes (kindOf w) ≡ false → Spells table s (row + 1) (w .end) body
-      → head ≡ ownHead w (length body) → Spells table s row (w .end) (head ++ body)
-  unfolding Inside ownBytes
-  over-spells row w body head e up b c q =
-      row-spells row w body (head ++ body) e up (λ t. apart (hasBytes (kindOf w)) t b) c
-      (ap (λ (l : List ℕ). l ++ body) (q ∙ sym (append-nil (ownHead w (length body))) ∙ ap (λ (x : Bool). ownHead w (length body) ++ cond x (take (w .w1) (drop (w .w0) s)) []) (sym b)))
+    -- a tree of one row
+    one-spells : size t ≡ 1 → Inside s w → (bytes : List ℕ) → bytes ≡ ownBytes s w 0 → Spells table s row (row + size t) bytes
+    one-spells z i bytes q =
+        row-spells row w [] bytes (top-at table t row registry rest h) (omega (arith, z)) i (none (row + 1) (row + size t) [] (omega (arith, z)) refl) (q ∙ sym (append-nil (ownBytes s w 0)))
 
-  leaf-row : (row kind w0 w1 w2 w3 : ℕ) (rest : List ℕ) → drop (wordsPerRow * row) table ≡ wordsOf (leafRow kind row w0 w1 w2 w3) ++ rest
-      → (hasBytes (named kind w2) ≡ true → w0 + w1 ≤ length s) → Spells table s row (row + 1) (headFor kind w0 w1 w2 w3 0 (named kind w2) ++ payload s w0 w1 (named kind w2))
-  unfolding Inside ownBytes ownHead
-  leaf-row row kind w0 w1 w2 w3 rest h i =
-      let w : Row = leafRow kind row w0 w1 w2 w3 in
-      leaf-spells row w _ (row-words table row w rest h) refl i refl
-
-  refer-inside : (row number entry : ℕ) → Inside s (referenceRow row number entry)
-  unfolding Inside named
-  refer-inside row number entry t = apart false t refl
-
-  refer-own : (row number entry : ℕ) → form referenceNumber number ≡ ownBytes s (referenceRow row number entry) 0
-  unfolding ownBytes ownHead named headFor
-  refer-own row number entry = sym (append-nil (form referenceNumber number))
+    -- a row without bytes of the data, over what its children spell
+    over-spells : Bare (ownOf w) → (body : List ℕ) → Spells table s (row + 1) (row + size t) body → Spells table s row (row + size t) (ownHead w (length body) ++ body)
+    over-spells bare body c =
+        row-spells row w body (ownHead w (length body) ++ body) (top-at table t row registry rest h) (omega (arith, size-pos t)) (bare-inside s w bare) c
+        (ap (λ (l : List ℕ). l ++ body) (sym (bare-bytes s w bare (length body))))
 
   -- ---- trees
 
   key-spells : (t : Tree) (row : ℕ) (registry rest : List ℕ) → KeyFine s t → drop (wordsPerRow * row) table ≡ layout t row registry ++ rest → Spells table s row (row + size t) (encode s t)
-  unfolding KeyFine layout size encode
-  key-spells (leaf kind w0 w1 w2 w3) row registry rest f h = leaf-row row kind w0 w1 w2 w3 rest h (λ _. spelt-within s w0 w1 w2 w3 (f .1))
-  key-spells (refer number) row registry rest f h = absurd f
-  key-spells (hold kind count ts) row registry rest f h = absurd f
-  key-spells (declare count es t) row registry rest f h = absurd f
+  unfolding KeyFine encode size Inside ownBytes ownHead
+  key-spells (leaf o) row registry rest f h = one-spells (leaf o) row registry rest h refl (λ _. key-inside s o f) _ refl
+  key-spells (refer o) row registry rest f h = absurd f
+  key-spells (hold o ts) row registry rest f h = absurd f
+  key-spells (declare o es t) row registry rest f h = absurd f
+  key-spells (foreign o t) row registry rest f h = absurd f
+  key-spells (damaged o) row registry rest f h = absurd f
 
-  either-spells : (b : Bool) (t : Tree) (d k row : ℕ) (registry rest : List ℕ) → (Fine s d k t → Spells table s row (row + size t) (encode s t)) → Either b (KeyFine s t) (Fine s d k t)
+  item-spells : (b : Bool) (t : Tree) (d k row : ℕ) (registry rest : List ℕ) → (Fine s d k t → Spells table s row (row + size t) (encode s t)) → IfKey b (KeyFine s t) (Fine s d k t)
       → drop (wordsPerRow * row) table ≡ layout t row registry ++ rest → Spells table s row (row + size t) (encode s t)
-  either-spells true t d k row registry rest g f h = key-spells t row registry rest f h
-  either-spells false t d k row registry rest g f h = g f
+  item-spells true t d k row registry rest g f h = key-spells t row registry rest f h
+  item-spells false t d k row registry rest g f h = g f
 
   mutual
-    unfolding layout size Fine encode headFor ownHead named
+    unfolding layout size Fine encode Inside ownBytes ownHead
 
     pub tree-spells : (t : Tree) (d k row : ℕ) (registry rest : List ℕ) → Fine s d k t → drop (wordsPerRow * row) table ≡ layout t row registry ++ rest → Spells table s row (row + size t) (encode s t)
-    tree-spells (leaf kind w0 w1 w2 w3) d k row registry rest f h = leaf-row row kind w0 w1 w2 w3 rest h (leaf-inside s (d - 1) k kind w0 w1 w2 w3 (f .1))
-    tree-spells (refer number) d k row registry rest f h =
-        let w : Row = referenceRow row number (getD registry number 0) in
-        leaf-spells row w (form referenceNumber number) (row-words table row w rest h) refl (refer-inside row number (getD registry number 0)) (refer-own row number (getD registry number 0))
-    tree-spells (hold kind count ts) d k row registry rest f h =
-        let w : Row = holderRow kind (row + (1 + sizes ts)) count in
-        let L : List ℕ = layouts ts false (row + 1) registry in
-        let u : drop (wordsPerRow * row) table ≡ wordsOf w ++ (L ++ rest) = h ∙ append-assoc (wordsOf w) L rest in
-        let v : drop (wordsPerRow * (row + 1)) table ≡ L ++ rest = behind table row 1 (wordsOf w) (L ++ rest) (length-words w) u in
+    tree-spells (leaf o) d k row registry rest f h = one-spells (leaf o) row registry rest h refl (leaf-inside s o (f .1)) _ refl
+    tree-spells (refer o) d k row registry rest f h =
+        let e : ℕ = getD registry (o .w0) 0 in
+        let v : Row = topRow (refer o) row registry in
+        one-spells (refer o) row registry rest h refl (bare-inside s v (refer-bare s o (f .1) e)) (headOf o 0)
+        (sym (refer-head s o (f .1) e) ∙ sym (bare-bytes s v (refer-bare s o (f .1) e) 0))
+    tree-spells (hold o ts) d k row registry rest f h =
         let e : row + 1 + sizes ts ≡ row + (1 + sizes ts) = omega arith in
-        over-spells row w (encodes s ts) _ (row-words table row w (L ++ rest) u) (omega arith) (hold-bare s k kind count _ _ _ (f .1 .2))
-        (subst (λ (x : ℕ). Spells table s (row + 1) x (encodes s ts)) e (trees-spell ts (d - 1) (f .1 .0) (f .1 .1) 0 (row + 1) false registry rest (f .1 .3) v)) refl
-    tree-spells (declare count es t) d k row registry rest f h =
-        let w : Row = declarationRow (row + (1 + (sizes es + size t))) count in
+        over-spells (hold o ts) row registry rest h (hold-bare s o (f .1 .0) (f .1 .1)) (encodes s ts)
+        (subst (λ (x : ℕ). Spells table s (row + 1) x (encodes s ts)) e
+        (trees-spell ts (d - 1) (childrenOf (f .1 .0)) k 0 (row + 1) false registry rest (f .1 .3) (rest-at table row registry rest (hold o ts) h)))
+    tree-spells (declare o es t) d k row registry rest f h =
         let A : List ℕ = entries es (row + 1) [] in
         let E : List ℕ = layouts es true (row + 1) [] in
         let U : List ℕ = layout t (row + 1 + sizes es) A in
-        let u : drop (wordsPerRow * row) table ≡ wordsOf w ++ (E ++ (U ++ rest)) = h ∙ append-assoc (wordsOf w) (E ++ U) rest ∙ ap (λ (x : List ℕ). wordsOf w ++ x) (append-assoc E U rest) in
-        let v : drop (wordsPerRow * (row + 1)) table ≡ E ++ (U ++ rest) = behind table row 1 (wordsOf w) (E ++ (U ++ rest)) (length-words w) u in
+        let v : drop (wordsPerRow * (row + 1)) table ≡ E ++ (U ++ rest) = rest-at table row registry rest (declare o es t) h ∙ append-assoc E U rest in
         let v′ : drop (wordsPerRow * (row + 1 + sizes es)) table ≡ U ++ rest = behind table (row + 1) (sizes es) E (U ++ rest) (length-layouts es true (row + 1) []) v in
         let e : row + 1 + sizes es + size t ≡ row + (1 + (sizes es + size t)) = omega arith in
-        let a = trees-spell es (d - 1) Growing 0 0 (row + 1) true [] (U ++ rest) (f .3) v in
-        let b = tree-spells t (d - 1) count (row + 1 + sizes es) A rest (f .4) v′ in
-        over-spells row w (encodes s es ++ encode s t) _ (row-words table row w (E ++ (U ++ rest)) u) (omega arith) refl
+        let a = trees-spell es (d - 1) Entries 0 0 (row + 1) true [] (U ++ rest) (f .3) v in
+        let b = tree-spells t (d - 1) (o .w0) (row + 1 + sizes es) A rest (f .4) v′ in
+        over-spells (declare o es t) row registry rest h (declare-bare s o (f .1)) (encodes s es ++ encode s t)
         (subst (λ (x : ℕ). Spells table s (row + 1) x (encodes s es ++ encode s t)) e
-        (spells-append table s (row + 1) (row + 1 + sizes es) (row + 1 + sizes es + size t) (encodes s es) (encode s t) (omega arith) a b)) refl
+        (spells-append table s (row + 1) (row + 1 + sizes es) (row + 1 + sizes es + size t) (encodes s es) (encode s t) (omega arith) a b))
+    tree-spells (foreign o t) d k row registry rest f h =
+        let e : row + 1 + size t ≡ row + (1 + size t) = omega arith in
+        over-spells (foreign o t) row registry rest h (foreign-bare s o (f .1)) (encode s t)
+        (subst (λ (x : ℕ). Spells table s (row + 1) x (encode s t)) e
+        (tree-spells t (d - 1) (inForeign k) (row + 1) (inBody registry) rest (f .2) (rest-at table row registry rest (foreign o t) h)))
+    tree-spells (damaged o) d k row registry rest f h = one-spells (damaged o) row registry rest h refl (λ _. damaged-inside s o (f .1)) _ refl
 
     pub trees-spell : (ts : Trees) (d : ℕ) (c : Children) (k i row : ℕ) (grows : Bool) (registry rest : List ℕ) → Fines s d c k i ts
         → drop (wordsPerRow * row) table ≡ layouts ts grows row registry ++ rest → Spells table s row (row + sizes ts) (encodes s ts)
@@ -133,7 +162,7 @@ module _ (table s : List ℕ) where
         let L : List ℕ = layouts ts grows (row + size t) R in
         let u : drop (wordsPerRow * row) table ≡ T ++ (L ++ rest) = h ∙ append-assoc T L rest in
         let v : drop (wordsPerRow * (row + size t)) table ≡ L ++ rest = behind table row (size t) T (L ++ rest) (length-layout t row registry) u in
-        let a = either-spells (isKey c i) t d k row registry (L ++ rest) (λ q. tree-spells t d k row registry (L ++ rest) q u) (f .0) u in
+        let a = item-spells (isKey c i) t d k row registry (L ++ rest) (λ q. tree-spells t d k row registry (L ++ rest) q u) (f .0) u in
         let b = trees-spell ts d c _ (i + 1) (row + size t) grows R rest (f .1) v in
         let e : row + size t + sizes ts ≡ row + (size t + sizes ts) = omega arith in
         subst (λ (x : ℕ). Spells table s row x (encode s t ++ encodes s ts)) e

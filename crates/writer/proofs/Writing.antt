@@ -7,15 +7,16 @@ use lib.ListN.{length, length-append}
 use lib.Seq.{sets, length-sets}
 use Rattle.lists.proofs.Sets.{sets-append}
 use Rattle.rows.specs.declared.row.Row.{Row}
-use Rattle.rows.specs.Table.{rowAt, lent, limit}
+use Rattle.rows.specs.Table.{ownOf, rowAt, lent, limit}
 use Rattle.rows.specs.Kinds.{kindForeign}
 use Rattle.rules.specs.declared.kind.Kind.{Kind}
 use Rattle.rules.proofs.Says.{Names, names}
 use Rattle.encode.specs.Encode.{payload}
-use Rattle.plan.specs.Own.{kindOf, ownHead}
+use Rattle.rules.specs.Shape.{named}
+use Rattle.plan.specs.Own.{ownHead}
 use Rattle.spell.specs.Own.{Inside, ownBytes}
 use Rattle.spell.proofs.Shorts.{head-any}
-use Rattle.writer.specs.Spells.{Spells, Spelt, Long, Told, Fits, Laid}
+use Rattle.writer.specs.Contracts.{Spells, Spelt, Long, Told, Fits, Laid}
 use Rattle.writer.proofs.Spelling.{First, first, forward, ended, after-first}
 
 -- ---- what a row's own bytes tell of its children
@@ -29,7 +30,7 @@ unfolding ownHead
 told-none table row w n =
     record {
       told =
-          λ s bytes h. head-any (w .kind) (w .w0) (w .w1) (w .w2) (w .w3) 0 (length bytes) (kindOf w) (λ e. n (subst (λ (K : Kind). Names K (w .kind)) e (names (w .kind) (w .w2))));
+          λ s bytes h. head-any (ownOf w) 0 (length bytes) (named (ownOf w)) (λ e. n (subst (λ (K : Kind). Names K (w .kind)) e (names (ownOf w))));
     }
 
 pub spelt-end : (table : List ℕ) (row : ℕ) (w : Row) (end : ℕ) → end ≡ w .end → Spelt table (row + 1) (w .end) → Spelt table (row + 1) end
@@ -77,7 +78,7 @@ module _ (table s : List ℕ) (n : ℕ) (out₀ : List ℕ) (p : Fits table s n 
       own-same : (rest : List ℕ) (f : First table s row n rest) → ownBytes s w size ≡ ownBytes s (rowAt table row) (length (f .body))
       unfolding ownBytes
       own-same rest f =
-          ap (λ (h : List ℕ). h ++ payload s (w .w0) (w .w1) (kindOf w)) (t .told s (f .body) (subst (λ (v : Row). Spells table s (row + 1) (v .end) (f .body)) (sym e) (f .children)))
+          ap (λ (h : List ℕ). h ++ payload s (ownOf w)) (t .told s (f .body) (subst (λ (v : Row). Spells table s (row + 1) (v .end) (f .body)) (sym e) (f .children)))
           ∙ ap (λ (v : Row). ownBytes s v (length (f .body))) e
 
       own-first : (rest : List ℕ) (f : First table s row n rest) → rest ≡ ownBytes s w size ++ (f .body ++ f .rest)

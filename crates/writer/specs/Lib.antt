@@ -1,2 +1,2 @@
-pub mod Spells
+pub mod Contracts
 pub mod Written

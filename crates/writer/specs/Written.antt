@@ -17,7 +17,7 @@ encoded s bad = []
 
 -- "It writes each value in the fewest bytes its kind and size of float allow": the document of the first n rows of a table over the data s
 unfoldable pub documentOf : ℕ → List ℕ → ℕ → List ℕ → List ℕ
-documentOf depth table n s = encoded s (grow (suc depth) table n s [] 0)
+documentOf depth table n s = encoded s (grow table n s (suc depth) [] 0)
 
 -- "1 too long: document above 16,777,215 bytes: bytes needed"; "13 no room: output too small: bytes needed"
 abbrev pub fitted : ℕ → ℕ → Written

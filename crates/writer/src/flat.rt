@@ -1,6 +1,6 @@
 // Rows stand in document order, so each row's own bytes in turn are the document.
 ghost use lib.ListN.{length};
-ghost use Rattle.writer.specs.Spells.{Fits, Laid};
+ghost use Rattle.writer.specs.Contracts.{Fits, Laid};
 use crate::sizes;
 
 // The bytes of the first n rows at the front of the output.

@@ -42,5 +42,5 @@ pub fn write(table: &[u32], n: usize, data: &[u8], out: &mut [u8]) -> Written
     ensures { λ r. ⌜ r ≡ written depthLimit (now (table .entry)) n (now («data» .entry)) (length (now (out .entry))) ⌝ }
     ensures { λ _. ⌜ now (out .exit) ≡ outputAfter depthLimit (now (table .entry)) n (now («data» .entry)) (now (out .entry)) ⌝ }
 {
-    write_within(table, n, data, out, 32)
+    write_within(table, n, data, out, format::DEPTH_LIMIT)
 }

@@ -1,9 +1,26 @@
-// The bytes of rows. Only a foreign document asks for those of its children apart, since it has their number before them.
-ghost use Prim.Native.Nat.{_+_};
-ghost use Rattle.writer.specs.Spells.{Spelt, Long, Told};
+// The bytes of rows: row sizing calls children sizing, which calls row sizing again, the rows that remain falling at each round.
+ghost use Prim.Native.Nat.{_+_, _<_};
+ghost use Rattle.rows.specs.Table.{rowAt};
+ghost use Rattle.writer.specs.Contracts.{Spelt, Long, Told};
 use rows::Row;
 
-// How many bytes the rows from `row` to `stop` spell; the rows that remain fall at each call.
+// How many bytes a row spells with its children: its own, among which a foreign document has the length of theirs, and theirs. For a row with
+// no child, as most are, no call is made.
+fn size_row(table: &[u32], row: usize) -> usize
+    requires { ⌜ Spelt (now table) row (rowAt (now table) row .end) × (row < rowAt (now table) row .end) ⌝ }
+    ensures { λ r. ⌜ Long (now (table .entry)) row (rowAt (now (table .entry)) row .end) r ⌝ }
+{
+    let w = rows::row_at(table, row);
+    let end = rows::number(w.end);
+    let first = row + 1;
+    if first == end {
+        return spell::row_size(w, 0);
+    }
+    let body = size_children(table, first, end);
+    spell::row_size(w, body) + body
+}
+
+// How many bytes the rows from `row` to `stop` spell, child after child.
 pub fn size_children(table: &[u32], row: usize, stop: usize) -> usize
     requires { ⌜ Spelt (now table) row stop ⌝ }
     ensures { λ r. ⌜ Long (now (table .entry)) row stop r ⌝ }
@@ -11,16 +28,8 @@ pub fn size_children(table: &[u32], row: usize, stop: usize) -> usize
     let mut here = row;
     let mut sum = 0;
     while here < stop {
-        let w = rows::row_at(table, here);
-        if w.kind != Row::FOREIGN {
-            sum += spell::row_size(w, 0);
-            here += 1;
-            continue;
-        }
-        let end = rows::number(w.end);
-        let body = size_children(table, here + 1, end);
-        sum += spell::row_size(w, body) + body;
-        here = end;
+        sum += size_row(table, here);
+        here = rows::number(rows::end_at(table, here));
     }
     sum
 }

@@ -1,7 +1,7 @@
 -- `panxidell_c::panxidell_along` meets its contract. Assumes nothing.
 use borrow.Author.Needs.{needs}
 use Rattle.packing.proofs.Same.{step-same}
-use Rattle.panxidell_c.proofs.Bounds.{along-packs}
+use Rattle.bounds.proofs.Bounds.{along-packs}
 use Rattle.panxidell_c.proofs.panxidell_along.Statement.{statement}
 use Rattle.panxidell_c.proofs.panxidell_along.Tie as tie
 

@@ -1,7 +1,7 @@
 -- `panxidell_c::panxidell_check` meets its contract. Assumes nothing.
 use borrow.Author.Needs.{needs}
 use Rattle.packing.proofs.Same.{checked-same}
-use Rattle.panxidell_c.proofs.Bounds.{checked-beside}
+use Rattle.bounds.proofs.Bounds.{checked-beside}
 use Rattle.panxidell_c.proofs.panxidell_check.Statement.{statement}
 use Rattle.panxidell_c.proofs.panxidell_check.Tie as tie
 

@@ -1,7 +1,7 @@
 -- `panxidell_c::panxidell_in` meets its contract. Assumes nothing.
 use borrow.Author.Needs.{needs}
 use Rattle.packing.proofs.Same.{step-same}
-use Rattle.panxidell_c.proofs.Bounds.{in-packs}
+use Rattle.bounds.proofs.Bounds.{in-packs}
 use Rattle.panxidell_c.proofs.panxidell_in.Statement.{statement}
 use Rattle.panxidell_c.proofs.panxidell_in.Tie as tie
 

@@ -1,7 +1,7 @@
 -- `panxidell_c::panxidell_on` meets its contract. Assumes nothing.
 use borrow.Author.Needs.{needs}
 use Rattle.packing.proofs.Same.{step-same}
-use Rattle.panxidell_c.proofs.Bounds.{on-packs}
+use Rattle.bounds.proofs.Bounds.{on-packs}
 use Rattle.panxidell_c.proofs.panxidell_on.Statement.{statement}
 use Rattle.panxidell_c.proofs.panxidell_on.Tie as tie
 

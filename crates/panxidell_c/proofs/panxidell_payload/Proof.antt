@@ -1,7 +1,7 @@
 -- `panxidell_c::panxidell_payload` meets its contract. Assumes nothing.
 use borrow.Author.Needs.{needs}
 use Rattle.packing.proofs.Same.{part-same, part-list}
-use Rattle.panxidell_c.proofs.Bounds.{payload-short}
+use Rattle.bounds.proofs.Bounds.{payload-short}
 use Rattle.panxidell_c.proofs.panxidell_payload.Statement.{statement}
 use Rattle.panxidell_c.proofs.panxidell_payload.Tie as tie
 

@@ -1,7 +1,7 @@
 -- `panxidell_c::panxidell_read` meets its contract. Assumes nothing.
 use borrow.Author.Needs.{needs}
 use Rattle.packing.proofs.Same.{answer-same}
-use Rattle.panxidell_c.proofs.Bounds.{answer-beside}
+use Rattle.bounds.proofs.Bounds.{answer-beside}
 use Rattle.panxidell_c.proofs.panxidell_read.Statement.{statement}
 use Rattle.panxidell_c.proofs.panxidell_read.Tie as tie
 

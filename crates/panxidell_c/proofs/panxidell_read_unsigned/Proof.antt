@@ -1,7 +1,7 @@
 -- `panxidell_c::panxidell_read_unsigned` meets its contract. Assumes nothing.
 use borrow.Author.Needs.{needs}
 use Rattle.packing.proofs.Same.{read-same, read-list}
-use Rattle.panxidell_c.proofs.Bounds.{unsigned-used}
+use Rattle.bounds.proofs.Bounds.{unsigned-used}
 use Rattle.panxidell_c.proofs.panxidell_read_unsigned.Statement.{statement}
 use Rattle.panxidell_c.proofs.panxidell_read_unsigned.Tie as tie
 

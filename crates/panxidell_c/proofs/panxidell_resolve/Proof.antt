@@ -1,7 +1,7 @@
 -- `panxidell_c::panxidell_resolve` meets its contract. Assumes nothing.
 use borrow.Author.Needs.{needs}
 use Rattle.packing.proofs.Same.{resolved-same, resolved-list}
-use Rattle.panxidell_c.proofs.Bounds.{resolved-small}
+use Rattle.bounds.proofs.Bounds.{resolved-small}
 use Rattle.panxidell_c.proofs.panxidell_resolve.Statement.{statement}
 use Rattle.panxidell_c.proofs.panxidell_resolve.Tie as tie
 

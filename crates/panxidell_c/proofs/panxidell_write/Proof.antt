@@ -1,7 +1,7 @@
 -- `panxidell_c::panxidell_write` meets its contract. Assumes nothing.
 use borrow.Author.Needs.{needs}
 use Rattle.packing.proofs.Same.{written-same}
-use Rattle.panxidell_c.proofs.Bounds.{written-beside}
+use Rattle.bounds.proofs.Bounds.{written-beside}
 use Rattle.panxidell_c.proofs.panxidell_write.Statement.{statement}
 use Rattle.panxidell_c.proofs.panxidell_write.Tie as tie
 

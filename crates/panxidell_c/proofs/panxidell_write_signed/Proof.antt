@@ -1,7 +1,7 @@
 -- `panxidell_c::panxidell_write_signed` meets its contract. Assumes nothing.
 use borrow.Author.Needs.{needs}
 use Rattle.packing.proofs.Same.{coded-same}
-use Rattle.panxidell_c.proofs.Bounds.{signed-few}
+use Rattle.bounds.proofs.Bounds.{signed-few}
 use Rattle.panxidell_c.proofs.panxidell_write_signed.Statement.{statement}
 use Rattle.panxidell_c.proofs.panxidell_write_signed.Tie as tie
 

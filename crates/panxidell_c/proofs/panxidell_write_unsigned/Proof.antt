@@ -1,7 +1,7 @@
 -- `panxidell_c::panxidell_write_unsigned` meets its contract. Assumes nothing.
 use borrow.Author.Needs.{needs}
 use Rattle.packing.proofs.Same.{coded-same}
-use Rattle.panxidell_c.proofs.Bounds.{unsigned-few}
+use Rattle.bounds.proofs.Bounds.{unsigned-few}
 use Rattle.panxidell_c.proofs.panxidell_write_unsigned.Statement.{statement}
 use Rattle.panxidell_c.proofs.panxidell_write_unsigned.Tie as tie
 

@@ -2,7 +2,7 @@
 -- level the way from a row to its children to one child. A law of Checks answers each way out. Assumes nothing.
 use Prim.Native.Nat.{ℕ, _+_, _*_, _-_, _<_}
 use borrow.Author.Needs.{needs}
-use Rattle.checker.proofs.Checks.{alone-fits, child-alone, child-asks, child-based, child-key, child-value, damaged-inside, declared-not, declared-up, entries-ask, entries-based, going-all, going-first, going-next, going-not, going-safe, Going, hold-asks, hold-based, own-asks, own-based, own-under, row-bad, row-damaged, row-declare, row-hold, row-leaf, row-refer, row-whole, safe-few, safe-lent, safe-room, value-deep, value-based, value-in, value-out, whole-asks, whole-based}
+use Rattle.checker.proofs.Checks.{alone-fits, child-alone, child-asks, child-based, child-key, child-value, damaged-inside, declared-broken, declared-until, entries-ask, entries-based, going-all, going-first, going-next, going-broken, going-ready, Going, hold-asks, hold-based, own-asks, own-based, own-under, row-bad, row-damaged, row-declare, row-hold, row-leaf, row-refer, row-whole, ready-few, ready-lent, ready-room, value-deep, value-based, value-in, value-out, whole-asks, whole-based}
 use borrow.Fn.Kinds.{In}
 use borrow.Fn.PlainCycle.{Measures, is, falls, and}
 use Rattle.checker.proofs.value.check_child.Reads as check-child
@@ -27,6 +27,7 @@ use Rattle.checker.proofs.one.ends_at.Reads as ends-at-reads
 use Rattle.checker.proofs.one.stands_alone.Reads as stands-alone-reads
 use Rattle.registry.specs.Registry.{firstIn}
 use Rattle.registry.proofs.base_of.Reads as base-of-reads
+use Rattle.format.proofs.in_foreign.Reads as in-foreign-reads
 use Rattle.format.proofs.head.Children.in_force.Reads as in-force-reads
 use Rattle.format.proofs.head.Children.is_key.Reads as is-key-reads
 use Rattle.format.proofs.head.Holder.children.Reads as children-reads
@@ -144,7 +145,7 @@ pub +check-child+check-children+check-declared+check-row+check-value-spec :
     (λ c κs. search needs)
     (λ c κs. search needs)
     (λ c. search child-key)
-    (λ c κs. (search safe-room, search safe-few))
+    (λ c κs. (search ready-room, search ready-few))
     (λ c. search alone-fits)
     (λ c. search child-alone)
     (λ c κs. search needs)
@@ -157,13 +158,13 @@ pub +check-child+check-children+check-declared+check-row+check-value-spec :
     check-children-Inv-loop
     check-children-μ-loop
     (λ c. search going-first)
-    (λ c κs. (search needs, (search going-safe, search child-based)))
+    (λ c κs. (search needs, (search going-ready, search child-based)))
     (λ c. search needs)
     (λ c. search needs)
     (λ c. search needs)
     (λ c. search going-next)
     (λ c. search needs)
-    (λ c. search going-not)
+    (λ c. search going-broken)
     (λ c. search going-all))
     (λ t. check-declared-lts.spec (
       check-children-below t,
@@ -180,8 +181,8 @@ pub +check-child+check-children+check-declared+check-row+check-value-spec :
     (λ c κs. (search needs, search own-under))
     (λ c κs. (search needs, (search own-asks, search own-based)))
     (λ c. search needs)
-    (λ c. search declared-up)
-    (λ c. search declared-not))
+    (λ c. search declared-until)
+    (λ c. search declared-broken))
     (λ t. check-row-lts.spec (
       check-reference-reads.Asked,
       check-reference-reads.Learnt,
@@ -195,6 +196,10 @@ pub +check-child+check-children+check-declared+check-row+check-value-spec :
       check-children.Post,
       check-declared-below t,
       check-declared.Post,
+      in-foreign-reads.Asked,
+      in-foreign-reads.Learnt,
+      check-value-below t,
+      check-value.Post,
       check-damaged-reads.Asked,
       check-damaged-reads.Learnt,
     )
@@ -204,7 +209,7 @@ pub +check-child+check-children+check-declared+check-row+check-value-spec :
     (λ c. search needs)
     (λ c. search needs)
     (λ c. search needs)
-    (λ c κs. (search safe-lent, search needs, search needs, search needs))
+    (λ c κs. (search ready-lent, search needs, search needs, search needs))
     (λ c. search needs)
     (λ c κs. search needs)
     (λ c κs. search needs)
@@ -217,6 +222,7 @@ pub +check-child+check-children+check-declared+check-row+check-value-spec :
     (λ c κs. search needs)
     (λ c. search needs)
     (λ c. search needs)
+    (λ c κs. search needs)
     (λ c κs. (search needs, (search whole-asks, search whole-based)))
     (λ c. search needs)
     (λ c κs. (search needs, search damaged-inside))

@@ -1,8 +1,7 @@
 -- `heads::behind::text` meets its contract. Assumes nothing.
-use mathlib.Core.Path.{_∙_, sym, ap}
 use Rattle.wide.specs.Members.{keyLength}
-use Rattle.format.specs.Head.{textHead}
 use Rattle.format.proofs.Heads.{count-within}
+use Rattle.heads.proofs.Positions.{text-counted, text-uncounted}
 use borrow.Author.Needs.{needs}
 use Rattle.heads.proofs.behind.text.Statement.{statement}
 use Rattle.heads.proofs.behind.text.Tie as tie
@@ -12,17 +11,7 @@ text-body-requires c κs =
     let a = c .before .before .before .before .before .args in
     (count-within keyLength (a .s .now) (a .from) (a .stop) (c .before .before .before .length-at .result) (c .before .before .before .length-at .ensures) _ _ (c .before .c .given .1), c .before .before .before .before .before .pre .1)
 
-returns : tie.Need-returns
-returns c =
-    let a = c .before .before .before .before .before .before .args in
-    c .text-body .ensures ∙ ap (textHead (a .kind) (a .s .now) (a .at) (a .stop)) (sym (c .before .before .c .given .1) ∙ c .before .before .before .before .length-at .ensures)
-
-returns-2 : tie.Need-returns-2
-returns-2 c =
-    let a = c .before .before .before .before .before .args in
-    ap (textHead (a .kind) (a .s .now) (a .at) (a .stop)) (sym (c .before .c2 .given .1) ∙ c .before .before .before .length-at .ensures)
-
 pub text-spec : {M : Type 1} → statement M
 text-spec =
     tie.close
-    (tie.spec (λ c κs. search needs) (λ c. search needs) text-body-requires (λ c. search needs) returns returns-2)
+    (tie.spec (λ c κs. search needs) (λ c. search needs) text-body-requires (λ c. search needs) (λ c. search text-counted) (λ c. search text-uncounted))

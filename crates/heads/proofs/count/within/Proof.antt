@@ -15,7 +15,7 @@ returns-3 : tie.Need-returns-3
 returns-3 c = within-none (c .before .before .before .before .before .before .args .w) (omega arith)
 
 returns-4 : tie.Need-returns-4
-returns-4 c = search (within-low, needs)
+returns-4 c = search within-low
 
 pub within-spec : {M : Type 1} → statement M
-within-spec = tie.close (tie.spec returns returns-2 returns-3 returns-4)
+within-spec = tie.close (tie.spec returns returns-2 returns-3 (λ c κs. search needs) (λ c κs. search needs) returns-4)

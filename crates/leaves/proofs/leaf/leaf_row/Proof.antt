@@ -1,7 +1,7 @@
 -- `leaves::leaf::leaf_row` meets its contract: a law of Leaves for each way out. Assumes nothing.
 use native.Mathlib.Omega.{arith}
 use borrow.Author.Needs.{needs}
-use Rattle.leaves.proofs.Leaves.{sane-body, sane-part, constant-words, small-words, integer-words, span-words, char-words}
+use Rattle.leaves.proofs.Leaves.{sane-body, sane-part, constant-row, small-row, integer-row, span-row, char-row}
 use Rattle.leaves.proofs.leaf.leaf_row.Statement.{statement}
 use Rattle.leaves.proofs.leaf.leaf_row.Tie as tie
 
@@ -18,19 +18,19 @@ span-requires c κs =
     omega (arith, a .pre .0)
 
 returns : tie.Need-returns
-returns c = search constant-words
+returns c = search constant-row
 
 returns-2 : tie.Need-returns-2
-returns-2 c = search small-words
+returns-2 c = search small-row
 
 returns-3 : tie.Need-returns-3
-returns-3 c = search integer-words
+returns-3 c = search integer-row
 
 returns-4 : tie.Need-returns-4
-returns-4 c = search span-words
+returns-4 c = search span-row
 
 returns-5 : tie.Need-returns-5
-returns-5 c = search char-words
+returns-5 c = search char-row
 
 pub leaf-row-spec : {M : Type 1} → statement M
 leaf-row-spec =

@@ -1,6 +1,6 @@
 -- `leaves::plain::lay_binary` meets its contract: a law of Straight for each way out. Assumes nothing.
 use borrow.Author.Needs.{needs}
-use Rattle.leaves.proofs.Straight.{kept, span-laid}
+use Rattle.leaves.proofs.Straight.{kept, binary-laid}
 use Rattle.leaves.proofs.plain.lay_binary.Statement.{statement}
 use Rattle.leaves.proofs.plain.lay_binary.Tie as tie
 
@@ -14,4 +14,4 @@ lay-binary-spec =
     (λ c κs. search needs)
     (λ c. search needs)
     (λ c. search needs)
-    (λ c. search span-laid))
+    (λ c. search binary-laid))

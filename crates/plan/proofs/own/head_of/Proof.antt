@@ -1,5 +1,5 @@
 -- `plan::own::head_of` meets its contract. Assumes nothing.
-use Rattle.plan.proofs.Owns.{constant-low, constant-byte, constant-head, small-head, signed-head, unsigned-head, float-head, text-head, holder-head, binary-head, char-head, reference-head, declaration-head, whole-head, damaged-head, key-head}
+use Rattle.plan.proofs.Owns.{constant-low, constant-byte, constant-head, small-head, signed-head, unsigned-head, float-head, text-head, holder-head, binary-head, char-head, reference-head, declaration-head, whole-head, damaged-head, key-head, unknown-head}
 use borrow.Author.Needs.{needs}
 use Rattle.plan.proofs.own.head_of.Statement.{statement}
 use Rattle.plan.proofs.own.head_of.Tie as tie
@@ -59,6 +59,8 @@ head-of-spec =
     (λ c. search needs)
     (λ c κs. search needs)
     (λ c κs. search needs)
+    (λ c. search needs)
+    (λ c κs. search needs)
     (λ c. search (constant-head, needs))
     (λ c. search (small-head, needs))
     (λ c. search (signed-head, needs) fits 20000)
@@ -72,4 +74,5 @@ head-of-spec =
     (λ c. search (declaration-head, needs))
     (λ c. search (whole-head, needs))
     (λ c. search (damaged-head, needs))
-    (λ c. search (key-head, needs)))
+    (λ c. search (key-head, needs))
+    (λ c. search (unknown-head, needs)))

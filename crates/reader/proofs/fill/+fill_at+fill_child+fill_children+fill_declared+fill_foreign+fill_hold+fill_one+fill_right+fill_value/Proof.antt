@@ -333,7 +333,7 @@ pub +fill-at+fill-child+fill-children+fill-declared+fill-foreign+fill-hold+fill-
     (λ c κs. search needs)
     (λ c κs. search needs)
     (λ c. search needs)
-    (λ c κs. (search needs, (search needs, ((search fills.body-right, search fills.body-whole), search needs))))
+    (λ c κs. (search needs, (search needs, (search fills.body-right, search needs))))
     (λ c. search needs)
     (λ c. search needs)
     (λ c κs. search needs)
@@ -425,7 +425,7 @@ pub +fill-at+fill-child+fill-children+fill-declared+fill-foreign+fill-hold+fill-
     (λ c κs. search fills.right-end)
     (λ c κs. search fills.right-lent)
     (λ c. search needs)
-    (λ c. let a = c .before .before .before .before .before .before .before .before .before .before .before .before .before .before .args in let p = c .before .before .before .before .before .before .before .before .before .before .before .before .before .before .pre .1 in let i = c .before .before .before .before .before .before .before .before .before .before .before .in-foreign in let v = c .before .before .before .before .before .before .before .before .before .fill-value in fills.right-done (a .s .now) (a .levels) (a .around) (i .result) (a .place) (a .size) (i .ensures) (a .table .now) (a .row) (a .base) (p .0) (p .1 .1 .1) (p .1 .0 .0) (p .1 .0 .1) (v .last .0) (v .result) (v .ensures) (c .before .before .before .before .before .before .if1 .left) (c .before .before .before .before .before .row-in .result) (c .before .before .before .foreign .result) (c .before .before .lay .last .0) (c .before .before .before .before .before .row-in .ensures) (c .before .before .before .foreign .ensures) (c .before .before .lay .ensures)))
+    (λ c. let a = c .before .before .before .before .before .before .before .before .before .before .before .before .before .before .args in let p = c .before .before .before .before .before .before .before .before .before .before .before .before .before .before .pre .1 in let i = c .before .before .before .before .before .before .before .before .before .before .before .in-foreign in let v = c .before .before .before .before .before .before .before .before .before .fill-value in fills.right-done (a .s .now) (a .levels) (a .around) (i .result) (a .place) (a .size) (i .ensures) (a .table .now) (a .row) (a .base) (p .0) (p .1 .1 .1) (p .1 .0) (v .last .0) (v .result) (v .ensures) (c .before .before .before .before .before .before .if1 .left) (c .before .before .before .before .before .row-in .result) (c .before .before .before .foreign .result) (c .before .before .lay .last .0) (c .before .before .before .before .before .row-in .ensures) (c .before .before .before .foreign .ensures) (c .before .before .lay .ensures)))
     (λ t. fill-value-lts.spec (
       lent-reads.Asked,
       lent-reads.Learnt,

@@ -1,6 +1,6 @@
 -- `reader::one::fill_key` meets its contract: a law of Fills for each way out. Assumes nothing.
 use borrow.Author.Needs.{needs}
-use Rattle.reader.proofs.Fills.{full-tried, key-declare, key-foreign, key-hold, key-laid, key-low, key-next, key-refer, key-refuse, key-sane}
+use Rattle.reader.proofs.Fills.{full-tried, key-behind, key-fits, key-laid, key-low, key-past, key-place, key-refused, key-size}
 use Rattle.reader.proofs.one.fill_key.Statement.{statement}
 use Rattle.reader.proofs.one.fill_key.Tie as tie
 
@@ -13,21 +13,13 @@ fill-key-spec =
     (λ c. search full-tried)
     (λ c κs. search needs)
     (λ c. search needs)
-    (λ c κs. (search needs, search key-low, search key-next, search key-sane))
+    (λ c κs. (search key-low, search key-place, search key-size))
+    (λ c κs. search needs)
+    (λ c. search key-fits)
     (λ c. search needs)
-    (λ c. search needs)
-    (λ c. search needs)
-    (λ c. search needs)
+    (λ c κs. (search key-past, search key-behind))
     (λ c. search needs)
     (λ c. search needs)
     (λ c. search key-laid)
     (λ c. search needs)
-    (λ c. search key-refuse)
-    (λ c. search needs)
-    (λ c. search key-hold)
-    (λ c. search needs)
-    (λ c. search key-refer)
-    (λ c. search needs)
-    (λ c. search key-declare)
-    (λ c. search needs)
-    (λ c. search key-foreign))
+    (λ c. search key-refused))

@@ -1,6 +1,6 @@
 -- `reader::one::fill_leaf` meets its contract. Assumes nothing.
 use borrow.Author.Needs.{needs}
-use Rattle.reader.proofs.Fills.{laid-words}
+use Rattle.reader.proofs.Fills.{laid-row}
 use Rattle.reader.proofs.one.fill_leaf.Statement.{statement}
 use Rattle.reader.proofs.one.fill_leaf.Tie as tie
 
@@ -13,4 +13,4 @@ fill-leaf-spec =
     (λ c. search needs)
     (λ c κs. search needs)
     (λ c. search needs)
-    (λ c. search laid-words))
+    (λ c. search laid-row))

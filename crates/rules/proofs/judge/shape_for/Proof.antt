@@ -4,9 +4,6 @@ use Rattle.rules.proofs.Judged.{holder-shape}
 use Rattle.rules.proofs.judge.shape_for.Statement.{statement}
 use Rattle.rules.proofs.judge.shape_for.Tie as tie
 
-returns-7 : tie.Need-returns-7
-returns-7 c = search holder-shape
-
 pub shape-for-spec : {M : Type 1} → statement M
 shape-for-spec =
     tie.close
@@ -31,7 +28,9 @@ shape-for-spec =
     (λ c. search needs)
     (λ c. search needs)
     (λ c. search needs)
-    returns-7
+    (λ c. search needs)
+    (λ c. search (needs, holder-shape))
+    (λ c. search needs)
     (λ c. search needs)
     (λ c. search needs)
     (λ c. search needs)

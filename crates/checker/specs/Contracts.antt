@@ -1,0 +1,67 @@
+-- What the functions of the check ask and answer. Assumes nothing: these are definitions, and they are cited inside the crate only.
+use mathlib.Core.Path.{_≡_}
+use Prim.Native.Nat.{ℕ, _+_, _≤_, _<_}
+use mathlib.Core.Bool.{Bool, true, false, cond, _&&_}
+use mathlib.Core.List.{List}
+use lib.Dec.{ltb, eqb}
+use Rattle.rows.specs.declared.row.Row.{Row}
+use Rattle.rows.specs.Table.{ownOf, rowAt, lent, limit}
+use Rattle.registry.specs.Registry.{walk, Below, Based}
+use Rattle.format.specs.declared.head.Children.{Children}
+use Rattle.format.specs.Value.{inForce}
+use Rattle.format.specs.Layout.{isEntry}
+use Rattle.rules.specs.declared.shape.Shape.{Shape}
+use Rattle.rules.specs.declared.shape.Shape.the-variants.{Bad, Leaf, Refer, Hold, Declare, Whole, Damaged}
+use Rattle.rules.specs.Shape.{shapeOf, keyFits}
+use Rattle.rules.specs.Grow.{Growth, grew, bad, Growths, grewAll, badAll}
+use Rattle.checker.specs.declared.standing.Standing.{Standing}
+use Rattle.checker.specs.declared.standing.Standing.the-variants.{Until, Broken}
+
+-- the table holds n rows, and each of the k entries in force stands before `row`
+pub record EntriesBefore (table : List ℕ) (n first k row : ℕ) : Type 0 where
+  pub room : n ≤ lent table
+  pub few : n ≤ limit
+  pub here : row ≤ n
+  pub below : Below table first k row
+
+-- the same of child number i of the sort c: where the children are entries, the ends of those before it lead to its row
+pub record EntriesBeforeChild (table : List ℕ) (n first k : ℕ) (c : Children) (i row : ℕ) : Type 0 where
+  pub before : EntriesBefore table n first (inForce c k i) row
+  pub linked : (isEntry c ≡ true → walk table first (inForce c k i) ≡ row)
+
+-- the base of the k entries in force around the children of the sort c; entries among them are walked over
+pub record BasedForChild (table : List ℕ) (base k : ℕ) (c : Children) : Type 0 where
+  pub based : Based table base k
+  pub walked : (isEntry c ≡ true → base < 4294967296)
+
+-- whether a row of that shape has no child and ends behind itself
+abbrev pub alone : Shape → ℕ → ℕ → Bool
+alone Bad row end = false
+alone Leaf row end = eqb end (row + 1)
+alone Refer row end = false
+alone (Hold holder) row end = false
+alone Declare row end = false
+alone Whole row end = false
+alone Damaged row end = false
+
+-- such a row stands at `row`
+unfoldable pub standsAlone : List ℕ → ℕ → List ℕ → ℕ → Bool
+standsAlone table n s row =
+    ltb row n && alone (shapeOf s (ownOf (rowAt table row))) row (rowAt table row .end)
+
+-- how what grows stands: until the row behind it
+abbrev pub standingOf : Growth → Standing
+standingOf (grew t next) = Until next
+standingOf bad = Broken
+
+abbrev pub standingAll : Growths → Standing
+standingAll (grewAll ts next) = Until next
+standingAll badAll = Broken
+
+abbrev pub endingAt : ℕ → Standing → Standing
+endingAt end (Until next) = cond (eqb next end) (Until next) Broken
+endingAt end Broken = Broken
+
+-- how a record's key stands
+abbrev pub keyStanding : List ℕ → ℕ → Row → Standing
+keyStanding s row w = endingAt (w .end) (cond (keyFits s (ownOf w)) (Until (row + 1)) Broken)

@@ -1,0 +1,261 @@
+-- Two right trees whose rows are the same, places aside, with the same payload bytes, say the same. By induction on both. Assumes nothing.
+use mathlib.Core.Path.{_≡_, refl, sym, ap, ap₂, _∙_, subst}
+use mathlib.Core.Bool.{Bool, true, false, cond}
+use mathlib.Core.List.{List, [], _++_, append-assoc}
+use Prim.Native.Nat.{ℕ, suc, _+_, _-_, _*_, _≤_, _<_}
+use native.Mathlib.Omega.{arith}
+use lib.ListN.{getD, take, drop}
+use Rattle.rows.specs.declared.row.Row.{Row}
+use Rattle.rows.specs.Table.{wordsPerRow, Own, ownOf, rowAt}
+use Rattle.rows.specs.Kinds.{own}
+use Rattle.format.specs.declared.head.Holder.{Holder}
+use Rattle.format.specs.declared.head.Children.{Children}
+use Rattle.format.specs.declared.head.Children.the-variants.{Entries}
+use Rattle.format.specs.Tree.{Tree, leaf, refer, hold, declare, foreign, damaged, Trees, none, more, many, size, sizes}
+use Rattle.format.specs.Value.{childCount, childrenOf, inForeign, isKey}
+use Rattle.format.specs.Layout.{layout, layouts, grown, entries, inBody, aimed}
+use Rattle.format.proofs.Layouts.{length-layout, length-layouts, size-pos, ownAt, topRow, top-at}
+use Rattle.rules.specs.declared.kind.Kind.{Kind}
+use Rattle.rules.specs.declared.shape.Shape.{Shape}
+use Rattle.rules.specs.declared.shape.Shape.the-variants as shape
+use Rattle.rules.specs.Shape.{named, shapeFor, shapeOf}
+use Rattle.rules.specs.Fine.{KeyFine, IfKey, Fine, Fines, Stands}
+use Rattle.rules.proofs.Exact.{laid-out}
+use Rattle.rules.proofs.Regrow.{behind, rest-at}
+use Rattle.rules.proofs.Says.{aimed-shape}
+use Rattle.encode.specs.Encode.{hasBytes, payload, moved}
+use Rattle.encode.specs.Said.{Said, one, over, under, said, saids}
+use Rattle.encode.specs.Said as says
+use Rattle.encode.proofs.Again.{told-of}
+use Rattle.writer.proofs.Trees.{Bare, hold-bare, declare-bare, foreign-bare, refer-bare}
+use Rattle.demands.specs.Alike.{SameRow, SameRows}
+
+-- ---- a right tree's own row tells which tree it is
+
+abbrev sortOf : Shape → ℕ
+sortOf shape.Bad = 6
+sortOf shape.Leaf = 0
+sortOf shape.Refer = 1
+sortOf (shape.Hold h) = 2
+sortOf shape.Declare = 3
+sortOf shape.Whole = 4
+sortOf shape.Damaged = 5
+
+abbrev sort : Tree → ℕ
+sort (leaf o) = 0
+sort (refer o) = 1
+sort (hold o ts) = 2
+sort (declare o es t) = 3
+sort (foreign o t) = 4
+sort (damaged o) = 5
+
+shape-is : (s : List ℕ) (o : Own) (x : Shape) → shapeOf s o ≡ x → (x ≡ shape.Bad → ⊥) → shapeFor (named o) ≡ x
+shape-is s o x e f = told-of s o x e f .is
+
+fine-sort : (s : List ℕ) (d k : ℕ) (R : List ℕ) (t : Tree) → Fine s d k t → sortOf (shapeFor (named (ownAt t R))) ≡ sort t
+unfolding Fine
+fine-sort s d k R (leaf o) f = ap sortOf (shape-is s o shape.Leaf (f .1) (λ z. let y : _≡_ {A = ℕ} 0 1 = cc in omega arith))
+fine-sort s d k R (refer o) f =
+    let e : ℕ = getD R (o .w0) 0 in
+    ap sortOf (shape-is s (aimed o e) shape.Refer (aimed-shape s o e (f .1)) (λ z. let y : _≡_ {A = ℕ} 0 1 = cc in omega arith))
+fine-sort s d k R (hold o ts) f = ap sortOf (shape-is s o (shape.Hold (f .1 .0)) (f .1 .1) (λ z. let y : _≡_ {A = ℕ} 0 1 = cc in omega arith))
+fine-sort s d k R (declare o es t) f = ap sortOf (shape-is s o shape.Declare (f .1) (λ z. let y : _≡_ {A = ℕ} 0 1 = cc in omega arith))
+fine-sort s d k R (foreign o t) f = ap sortOf (shape-is s o shape.Whole (f .1) (λ z. let y : _≡_ {A = ℕ} 0 1 = cc in omega arith))
+fine-sort s d k R (damaged o) f = ap sortOf (shape-is s o shape.Damaged (f .1) (λ z. let y : _≡_ {A = ℕ} 0 1 = cc in omega arith))
+
+-- what a row's kind names is told by its number and w2
+named-same : (o p : Own) → o .kind ≡ p .kind → o .w2 ≡ p .w2 → named o ≡ named p
+unfolding named
+named-same o p e f = ap₂ (λ (k w : ℕ). named (own k 0 0 w 0)) e f
+
+-- a row says one holder only
+one-holder : (s s′ : List ℕ) (o p : Own) (h h′ : Holder) → o ≡ p → shapeOf s o ≡ shape.Hold h → shapeOf s′ p ≡ shape.Hold h′ → h′ ≡ h
+one-holder s s′ o p h h′ e q q′ =
+    let a : shapeFor (named o) ≡ shape.Hold h = shape-is s o (shape.Hold h) q (λ z. let y : _≡_ {A = ℕ} 0 1 = cc in omega arith) in
+    let b : shapeFor (named p) ≡ shape.Hold h′ = shape-is s′ p (shape.Hold h′) q′ (λ z. let y : _≡_ {A = ℕ} 0 1 = cc in omega arith) in
+    let c : shape.Hold h′ ≡ shape.Hold h = sym b ∙ ap (λ (x : Own). shapeFor (named x)) (sym e) ∙ a in
+    cc
+
+module _ (s s′ : List ℕ) where
+  -- rows without bytes of the data
+  bare-own : (w w′ : Row) → SameRow s w s′ w′ → Bare (ownOf w) → ownOf w ≡ ownOf w′
+  bare-own w w′ e b = λ i. own (e .kind i) (e .w0 b i) (e .w1 i) (e .w2 i) (e .w3 i)
+
+  -- a row with no child
+  one-says : (w w′ : Row) → SameRow s w s′ w′ → one (moved (ownOf w) 0) (payload s (ownOf w)) ≡ one (moved (ownOf w′) 0) (payload s′ (ownOf w′))
+  one-says w w′ e = of (hasBytes (named (ownOf w))) refl ∙ ap (λ (b : Bool). saysBy b) (ap hasBytes (named-same (ownOf w) (ownOf w′) (e .kind) (e .w2)))
+    where
+      saysBy : Bool → Said
+      saysBy b = one (own (w′ .kind) (cond b 0 (w′ .w0)) (w′ .w1) (w′ .w2) (w′ .w3)) (cond b (take (w′ .w1) (drop (w′ .w0) s′)) [])
+
+      of : (b : Bool) → hasBytes (named (ownOf w)) ≡ b → one (own (w .kind) (cond b 0 (w .w0)) (w .w1) (w .w2) (w .w3)) (cond b (take (w .w1) (drop (w .w0) s)) []) ≡ saysBy b
+      of true q = λ i. one (own (e .kind i) 0 (e .w1 i) (e .w2 i) (e .w3 i)) (e .payload q i)
+      of false q = λ i. one (own (e .kind i) (e .w0 q i) (e .w1 i) (e .w2 i) (e .w3 i)) []
+
+  module _ (table table′ : List ℕ) where
+    abbrev Same : ℕ → ℕ → Type 0
+    Same row stop = (i : ℕ) → row ≤ i → i < stop → SameRow s (rowAt table i) s′ (rowAt table′ i)
+
+    -- both stand at the same row
+    module _ (t u : Tree) (row : ℕ) (R R′ rest rest′ : List ℕ) (h : drop (wordsPerRow * row) table ≡ layout t row R ++ rest) (h′ : drop (wordsPerRow * row) table′ ≡ layout u row R′ ++ rest′) where
+      top-same : SameRow s (rowAt table row) s′ (rowAt table′ row) → SameRow s (topRow t row R) s′ (topRow u row R′)
+      top-same e =
+          subst (λ (v : Row). SameRow s v s′ (topRow u row R′)) (top-at table t row R rest h) (subst (SameRow s (rowAt table row) s′) (top-at table′ u row R′ rest′ h′) e)
+
+      same-sort : (d k d′ k′ : ℕ) → Fine s d k t → Fine s′ d′ k′ u → SameRow s (rowAt table row) s′ (rowAt table′ row) → sort t ≡ sort u
+      same-sort d k d′ k′ f f′ e =
+          let o = top-same e in
+          sym (fine-sort s d k R t f) ∙ ap (λ (K : Kind). sortOf (shapeFor K)) (named-same (ownAt t R) (ownAt u R′) (o .kind) (o .w2)) ∙ fine-sort s′ d′ k′ R′ u f′
+
+    abbrev Says : Tree → Tree → Type 0
+    Says t u = (row : ℕ) (R R′ rest rest′ : List ℕ) → drop (wordsPerRow * row) table ≡ layout t row R ++ rest → drop (wordsPerRow * row) table′ ≡ layout u row R′ ++ rest′
+        → Same row (row + size t) → (said s t ≡ said s′ u) × (size t ≡ size u)
+
+    -- the first row of a tree
+    here : (t : Tree) (row : ℕ) → Same row (row + size t) → SameRow s (rowAt table row) s′ (rowAt table′ row)
+    here t row e = e row (omega arith) (omega (arith, size-pos t))
+
+    key-says : (t u : Tree) → KeyFine s t → KeyFine s′ u → Says t u
+    unfolding KeyFine said size
+    key-says (leaf o) (leaf p) f f′ row R R′ rest rest′ h h′ e =
+        (one-says (topRow (leaf o) row R) (topRow (leaf p) row R′) (top-same (leaf o) (leaf p) row R R′ rest rest′ h h′ (here (leaf o) row e)), refl)
+    key-says (leaf o) (refer p) f f′ row R R′ rest rest′ h h′ e = absurd f′
+    key-says (leaf o) (hold p us) f f′ row R R′ rest rest′ h h′ e = absurd f′
+    key-says (leaf o) (declare p us u) f f′ row R R′ rest rest′ h h′ e = absurd f′
+    key-says (leaf o) (foreign p u) f f′ row R R′ rest rest′ h h′ e = absurd f′
+    key-says (leaf o) (damaged p) f f′ row R R′ rest rest′ h h′ e = absurd f′
+    key-says (refer o) u f f′ row R R′ rest rest′ h h′ e = absurd f
+    key-says (hold o ts) u f f′ row R R′ rest rest′ h h′ e = absurd f
+    key-says (declare o es t) u f f′ row R R′ rest rest′ h h′ e = absurd f
+    key-says (foreign o t) u f f′ row R R′ rest rest′ h h′ e = absurd f
+    key-says (damaged o) u f f′ row R R′ rest rest′ h h′ e = absurd f
+
+    item-says : (b : Bool) (t u : Tree) (d k d′ k′ : ℕ) → (Fine s d k t → Fine s′ d′ k′ u → Says t u) → IfKey b (KeyFine s t) (Fine s d k t) → IfKey b (KeyFine s′ u) (Fine s′ d′ k′ u) → Says t u
+    item-says true t u d k d′ k′ g f f′ = key-says t u f f′
+    item-says false t u d k d′ k′ g f f′ = g f f′
+
+    mutual
+      unfolding layout size said Fine many
+
+      -- their own rows are the same, and so are those behind
+      tree-says : (t u : Tree) (d k d′ k′ : ℕ) → Fine s d k t → Fine s′ d′ k′ u → (row : ℕ) (R R′ rest rest′ : List ℕ) → drop (wordsPerRow * row) table ≡ layout t row R ++ rest
+          → drop (wordsPerRow * row) table′ ≡ layout u row R′ ++ rest′ → sort t ≡ sort u → SameRow s (topRow t row R) s′ (topRow u row R′) → Same (row + 1) (row + size t)
+          → (said s t ≡ said s′ u) × (size t ≡ size u)
+      tree-says (leaf o) (leaf p) d k d′ k′ f f′ row R R′ rest rest′ h h′ q w e = (one-says (topRow (leaf o) row R) (topRow (leaf p) row R′) w, refl)
+      tree-says (refer o) (refer p) d k d′ k′ f f′ row R R′ rest rest′ h h′ q w e =
+          let m : ℕ = getD R (o .w0) 0 in
+          let m′ : ℕ = getD R′ (p .w0) 0 in
+          let x : aimed o m ≡ aimed p m′ = bare-own (topRow (refer o) row R) (topRow (refer p) row R′) w (refer-bare s o (f .1) m) in
+          let z : o ≡ p = ap (aimed o) (f .2) ∙ ap (λ (y : Own). aimed y 0) x ∙ ap (aimed p) (sym (f′ .2)) in
+          (ap (λ (y : Own). one y []) z, refl)
+      tree-says (hold o ts) (hold p us) d k d′ k′ f f′ row R R′ rest rest′ h h′ q w e =
+          let g : Holder = f .1 .0 in
+          let x : o ≡ p = bare-own (topRow (hold o ts) row R) (topRow (hold p us) row R′) w (hold-bare s o g (f .1 .1)) in
+          let y : f′ .1 .0 ≡ g = one-holder s s′ o p g (f′ .1 .0) x (f .1 .1) (f′ .1 .1) in
+          let m : many ts ≡ many us = f .1 .2 ∙ ap₂ (λ (z : Own) (v : Holder). childCount v (z .w0)) x (sym y) ∙ sym (f′ .1 .2) in
+          let a =
+          trees-say ts us (d - 1) k (d′ - 1) k′ (childrenOf g) 0 (f .1 .3) (subst (λ (v : Holder). Fines s′ (d′ - 1) (childrenOf v) k′ 0 us) y (f′ .1 .3)) (row + 1) false R R′ rest rest′
+          (rest-at table row R rest (hold o ts) h) (rest-at table′ row R′ rest′ (hold p us) h′) m (λ i l g. e i l (omega arith)) in
+          (ap₂ over x (a .0), ap (λ (z : ℕ). 1 + z) (a .1))
+      tree-says (declare o es t) (declare p us u) d k d′ k′ f f′ row R R′ rest rest′ h h′ q w e =
+          let A : List ℕ = entries es (row + 1) [] in
+          let A′ : List ℕ = entries us (row + 1) [] in
+          let E : List ℕ = layouts es true (row + 1) [] in
+          let E′ : List ℕ = layouts us true (row + 1) [] in
+          let U : List ℕ = layout t (row + 1 + sizes es) A in
+          let U′ : List ℕ = layout u (row + 1 + sizes us) A′ in
+          let v : drop (wordsPerRow * (row + 1)) table ≡ E ++ (U ++ rest) = rest-at table row R rest (declare o es t) h ∙ append-assoc E U rest in
+          let v′ : drop (wordsPerRow * (row + 1)) table′ ≡ E′ ++ (U′ ++ rest′) = rest-at table′ row R′ rest′ (declare p us u) h′ ∙ append-assoc E′ U′ rest′ in
+          let x : o ≡ p = bare-own (topRow (declare o es t) row R) (topRow (declare p us u) row R′) w (declare-bare s o (f .1)) in
+          let m : many es ≡ many us = f .2 ∙ ap (λ (z : Own). z .w0) x ∙ sym (f′ .2) in
+          let a = trees-say es us (d - 1) 0 (d′ - 1) 0 Entries 0 (f .3) (f′ .3) (row + 1) true [] [] (U ++ rest) (U′ ++ rest′) v v′ m (λ i l g. e i l (omega arith)) in
+          let c : ℕ = row + 1 + sizes es in
+          let b : drop (wordsPerRow * c) table ≡ U ++ rest = behind table (row + 1) (sizes es) E (U ++ rest) (length-layouts es true (row + 1) []) v in
+          let b′ : drop (wordsPerRow * c) table′ ≡ layout u c A′ ++ rest′ =
+          subst (λ (m : ℕ). drop (wordsPerRow * (row + 1 + m)) table′ ≡ layout u (row + 1 + m) A′ ++ rest′) (sym (a .1)) (behind table′ (row + 1) (sizes us) E′ (U′ ++ rest′) (length-layouts us true (row + 1) []) v′) in
+          let r = e c (omega arith) (omega (arith, size-pos t)) in
+          let z =
+          tree-says t u (d - 1) (o .w0) (d′ - 1) (p .w0) (f .4) (f′ .4) c A A′ rest rest′ b b′ (same-sort t u c A A′ rest rest′ b b′ (d - 1) (o .w0) (d′ - 1) (p .w0) (f .4) (f′ .4) r)
+          (top-same t u c A A′ rest rest′ b b′ r) (λ i l g. e i (omega arith) (omega arith)) in
+          (ap (λ (y : Own). under y (saids s es) (said s t)) x ∙ ap₂ (under p) (a .0) (z .0), ap₂ (λ (i j : ℕ). 1 + (i + j)) (a .1) (z .1))
+      tree-says (foreign o t) (foreign p u) d k d′ k′ f f′ row R R′ rest rest′ h h′ q w e =
+          let x : o ≡ p = bare-own (topRow (foreign o t) row R) (topRow (foreign p u) row R′) w (foreign-bare s o (f .1)) in
+          let B : List ℕ = inBody R in
+          let B′ : List ℕ = inBody R′ in
+          let b = rest-at table row R rest (foreign o t) h in
+          let b′ = rest-at table′ row R′ rest′ (foreign p u) h′ in
+          let r = e (row + 1) (omega arith) (omega (arith, size-pos t)) in
+          let z =
+          tree-says t u (d - 1) (inForeign k) (d′ - 1) (inForeign k′) (f .2) (f′ .2) (row + 1) B B′ rest rest′ b b′
+          (same-sort t u (row + 1) B B′ rest rest′ b b′ (d - 1) (inForeign k) (d′ - 1) (inForeign k′) (f .2) (f′ .2) r) (top-same t u (row + 1) B B′ rest rest′ b b′ r) (λ i l g. e i (omega arith) (omega arith)) in
+          (ap₂ (λ (y : Own) (v : Said). over y (says.more v says.none)) x (z .0), ap (λ (y : ℕ). 1 + y) (z .1))
+      tree-says (damaged o) (damaged p) d k d′ k′ f f′ row R R′ rest rest′ h h′ q w e = (one-says (topRow (damaged o) row R) (topRow (damaged p) row R′) w, refl)
+      tree-says (leaf o) (refer p) d k d′ k′ f f′ row R R′ rest rest′ h h′ q w e = absurd (omega (arith, q))
+      tree-says (leaf o) (hold p us) d k d′ k′ f f′ row R R′ rest rest′ h h′ q w e = absurd (omega (arith, q))
+      tree-says (leaf o) (declare p us u) d k d′ k′ f f′ row R R′ rest rest′ h h′ q w e = absurd (omega (arith, q))
+      tree-says (leaf o) (foreign p u) d k d′ k′ f f′ row R R′ rest rest′ h h′ q w e = absurd (omega (arith, q))
+      tree-says (leaf o) (damaged p) d k d′ k′ f f′ row R R′ rest rest′ h h′ q w e = absurd (omega (arith, q))
+      tree-says (refer o) (leaf p) d k d′ k′ f f′ row R R′ rest rest′ h h′ q w e = absurd (omega (arith, q))
+      tree-says (refer o) (hold p us) d k d′ k′ f f′ row R R′ rest rest′ h h′ q w e = absurd (omega (arith, q))
+      tree-says (refer o) (declare p us u) d k d′ k′ f f′ row R R′ rest rest′ h h′ q w e = absurd (omega (arith, q))
+      tree-says (refer o) (foreign p u) d k d′ k′ f f′ row R R′ rest rest′ h h′ q w e = absurd (omega (arith, q))
+      tree-says (refer o) (damaged p) d k d′ k′ f f′ row R R′ rest rest′ h h′ q w e = absurd (omega (arith, q))
+      tree-says (hold o ts) (leaf p) d k d′ k′ f f′ row R R′ rest rest′ h h′ q w e = absurd (omega (arith, q))
+      tree-says (hold o ts) (refer p) d k d′ k′ f f′ row R R′ rest rest′ h h′ q w e = absurd (omega (arith, q))
+      tree-says (hold o ts) (declare p us u) d k d′ k′ f f′ row R R′ rest rest′ h h′ q w e = absurd (omega (arith, q))
+      tree-says (hold o ts) (foreign p u) d k d′ k′ f f′ row R R′ rest rest′ h h′ q w e = absurd (omega (arith, q))
+      tree-says (hold o ts) (damaged p) d k d′ k′ f f′ row R R′ rest rest′ h h′ q w e = absurd (omega (arith, q))
+      tree-says (declare o es t) (leaf p) d k d′ k′ f f′ row R R′ rest rest′ h h′ q w e = absurd (omega (arith, q))
+      tree-says (declare o es t) (refer p) d k d′ k′ f f′ row R R′ rest rest′ h h′ q w e = absurd (omega (arith, q))
+      tree-says (declare o es t) (hold p us) d k d′ k′ f f′ row R R′ rest rest′ h h′ q w e = absurd (omega (arith, q))
+      tree-says (declare o es t) (foreign p u) d k d′ k′ f f′ row R R′ rest rest′ h h′ q w e = absurd (omega (arith, q))
+      tree-says (declare o es t) (damaged p) d k d′ k′ f f′ row R R′ rest rest′ h h′ q w e = absurd (omega (arith, q))
+      tree-says (foreign o t) (leaf p) d k d′ k′ f f′ row R R′ rest rest′ h h′ q w e = absurd (omega (arith, q))
+      tree-says (foreign o t) (refer p) d k d′ k′ f f′ row R R′ rest rest′ h h′ q w e = absurd (omega (arith, q))
+      tree-says (foreign o t) (hold p us) d k d′ k′ f f′ row R R′ rest rest′ h h′ q w e = absurd (omega (arith, q))
+      tree-says (foreign o t) (declare p us u) d k d′ k′ f f′ row R R′ rest rest′ h h′ q w e = absurd (omega (arith, q))
+      tree-says (foreign o t) (damaged p) d k d′ k′ f f′ row R R′ rest rest′ h h′ q w e = absurd (omega (arith, q))
+      tree-says (damaged o) (leaf p) d k d′ k′ f f′ row R R′ rest rest′ h h′ q w e = absurd (omega (arith, q))
+      tree-says (damaged o) (refer p) d k d′ k′ f f′ row R R′ rest rest′ h h′ q w e = absurd (omega (arith, q))
+      tree-says (damaged o) (hold p us) d k d′ k′ f f′ row R R′ rest rest′ h h′ q w e = absurd (omega (arith, q))
+      tree-says (damaged o) (declare p us u) d k d′ k′ f f′ row R R′ rest rest′ h h′ q w e = absurd (omega (arith, q))
+      tree-says (damaged o) (foreign p u) d k d′ k′ f f′ row R R′ rest rest′ h h′ q w e = absurd (omega (arith, q))
+
+      trees-say : (ts us : Trees) (d k d′ k′ : ℕ) (c : Children) (i : ℕ) → Fines s d c k i ts → Fines s′ d′ c k′ i us → (row : ℕ) (grows : Bool) (R R′ rest rest′ : List ℕ)
+          → drop (wordsPerRow * row) table ≡ layouts ts grows row R ++ rest → drop (wordsPerRow * row) table′ ≡ layouts us grows row R′ ++ rest′ → many ts ≡ many us → Same row (row + sizes ts)
+          → (saids s ts ≡ saids s′ us) × (sizes ts ≡ sizes us)
+      trees-say none none d k d′ k′ c i f f′ row grows R R′ rest rest′ h h′ m e = (refl, refl)
+      trees-say none (more u us) d k d′ k′ c i f f′ row grows R R′ rest rest′ h h′ m e = absurd (omega (arith, m))
+      trees-say (more t ts) none d k d′ k′ c i f f′ row grows R R′ rest rest′ h h′ m e = absurd (omega (arith, m))
+      trees-say (more t ts) (more u us) d k d′ k′ c i f f′ row grows R R′ rest rest′ h h′ m e =
+          let T : List ℕ = layout t row R in
+          let T′ : List ℕ = layout u row R′ in
+          let G : List ℕ = grown grows R row in
+          let G′ : List ℕ = grown grows R′ row in
+          let L : List ℕ = layouts ts grows (row + size t) G in
+          let L′ : List ℕ = layouts us grows (row + size u) G′ in
+          let x : drop (wordsPerRow * row) table ≡ T ++ (L ++ rest) = h ∙ append-assoc T L rest in
+          let x′ : drop (wordsPerRow * row) table′ ≡ T′ ++ (L′ ++ rest′) = h′ ∙ append-assoc T′ L′ rest′ in
+          let a =
+          item-says (isKey c i) t u d k d′ k′
+          (λ f f′ row R R′ rest rest′ h h′ e.
+          tree-says t u d k d′ k′ f f′ row R R′ rest rest′ h h′ (same-sort t u row R R′ rest rest′ h h′ d k d′ k′ f f′ (here t row e)) (top-same t u row R R′ rest rest′ h h′ (here t row e)) (λ i l g. e i (omega arith) g))
+          (f .0) (f′ .0) row R R′ (L ++ rest) (L′ ++ rest′) x x′ (λ i l g. e i l (omega arith)) in
+          let v : drop (wordsPerRow * (row + size t)) table ≡ L ++ rest = behind table row (size t) T (L ++ rest) (length-layout t row R) x in
+          let v′ : drop (wordsPerRow * (row + size t)) table′ ≡ layouts us grows (row + size t) G′ ++ rest′ =
+          subst (λ (j : ℕ). drop (wordsPerRow * (row + j)) table′ ≡ layouts us grows (row + j) G′ ++ rest′) (sym (a .1)) (behind table′ row (size u) T′ (L′ ++ rest′) (length-layout u row R′) x′) in
+          let b = trees-say ts us d _ d′ _ c (i + 1) (f .1) (f′ .1) (row + size t) grows G G′ rest rest′ v v′ (omega (arith, m)) (λ i l g. e i (omega arith) (omega arith)) in
+          (ap₂ says.more (a .0) (b .0), ap₂ (λ (i j : ℕ). i + j) (a .1) (b .1))
+
+-- ---- tables
+
+-- trees that stand in tables that are the same row by row say the same
+pub stands-say : (depth depth′ : ℕ) (table table′ : List ℕ) (n : ℕ) (s s′ : List ℕ) (t u : Tree) → Stands depth table n s t → Stands depth′ table′ n s′ u → SameRows table s table′ s′ n → said s t ≡ said s′ u
+stands-say depth depth′ table table′ n s s′ t u st st′ e =
+    let rest : List ℕ = drop (wordsPerRow * n) table in
+    let rest′ : List ℕ = drop (wordsPerRow * n) table′ in
+    let x = laid-out depth table n s t st in
+    let x′ = laid-out depth′ table′ n s′ u st′ in
+    let r = e 0 (omega (arith, st .some)) in
+    tree-says s s′ table table′ t u (suc depth) 0 (suc depth′) 0 (st .fine) (st′ .fine) 0 [] [] rest rest′ x x′
+    (same-sort s s′ table table′ t u 0 [] [] rest rest′ x x′ (suc depth) 0 (suc depth′) 0 (st .fine) (st′ .fine) r) (top-same s s′ table table′ t u 0 [] [] rest rest′ x x′ r) (λ i l g. e i (omega (arith, st .rows))) .0

@@ -1,0 +1,4 @@
+pub mod Examples
+pub mod Promises
+pub mod Variables
+pub mod Writes

@@ -1,8 +1,0 @@
--- `writes::shown` meets its contract. Assumes nothing.
-use Rattle.line.proofs.Counting.{counts}
-use borrow.Author.Needs.{needs}
-use Rattle.writes.proofs.shown.Statement.{statement}
-use Rattle.writes.proofs.shown.Tie as tie
-
-pub shown-spec : {M : Type 1} → statement M
-shown-spec = tie.close (tie.spec (λ c. search (counts, needs)) (λ c. search (counts, needs)))
