@@ -95,14 +95,13 @@ module _ (s s′ : List ℕ) where
     TreeSame t = (at row : ℕ) (registry rest rest′ : List ℕ) → said s′ (placed s t at) ≡ said s t → drop (wordsPerRow * row) table ≡ layout t row registry ++ rest
         → drop (wordsPerRow * row) table′ ≡ layout (placed s t at) row registry ++ rest′ → Same row (row + size t)
 
+    leaf-same : (o : Own) → TreeSame (leaf o)
+    unfolding size placed said
+    leaf-same o at row registry rest rest′ q h h′ = top-same (leaf o) (leaf (moved o (at + length (headOf o 0)))) row registry rest rest′ h h′ (one-same o (row + 1) (at + length (headOf o 0)) q) (none-left row)
+
     key-same : (t : Tree) → KeyFine s t → TreeSame t
-    unfolding KeyFine size placed said
-    key-same (leaf o) f at row registry rest rest′ q h h′ = top-same (leaf o) (leaf (moved o (at + length (headOf o 0)))) row registry rest rest′ h h′ (one-same o (row + 1) (at + length (headOf o 0)) q) (none-left row)
-    key-same (refer o) f at row registry rest rest′ q h h′ = absurd f
-    key-same (hold o ts) f at row registry rest rest′ q h h′ = absurd f
-    key-same (declare o es t) f at row registry rest rest′ q h h′ = absurd f
-    key-same (foreign o t) f at row registry rest rest′ q h h′ = absurd f
-    key-same (damaged o) f at row registry rest rest′ q h h′ = absurd f
+    unfolding size placed said
+    key-same t f = rw (f .is) (leaf-same (f .own))
 
     item-same : (b : Bool) (t : Tree) (d k : ℕ) → (Fine s d k t → TreeSame t) → IfKey b (KeyFine s t) (Fine s d k t) → TreeSame t
     item-same true t d k g f = key-same t f
@@ -112,7 +111,7 @@ module _ (s s′ : List ℕ) where
       unfolding layout size placed said Fine
 
       pub tree-same : (t : Tree) (d k : ℕ) → Fine s d k t → TreeSame t
-      tree-same (leaf o) d k f at row registry rest rest′ q h h′ = top-same (leaf o) (leaf (moved o (at + length (headOf o 0)))) row registry rest rest′ h h′ (one-same o (row + 1) (at + length (headOf o 0)) q) (none-left row)
+      tree-same (leaf o) d k f at row registry rest rest′ q h h′ = leaf-same o at row registry rest rest′ q h h′
       tree-same (refer o) d k f at row registry rest rest′ q h h′ =
           let e : ℕ = getD registry (o .w0) 0 in
           top-same (refer o) (refer o) row registry rest rest′ h h′ (bare-same (aimed o e) (refer-bare s o (f .1) e) (row + 1) (row + 1) refl) (none-left row)

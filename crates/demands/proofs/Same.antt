@@ -115,20 +115,13 @@ module _ (s s′ : List ℕ) where
     here : (t : Tree) (row : ℕ) → Same row (row + size t) → SameRow s (rowAt table row) s′ (rowAt table′ row)
     here t row e = e row (omega arith) (omega (arith, size-pos t))
 
-    key-says : (t u : Tree) → KeyFine s t → KeyFine s′ u → Says t u
-    unfolding KeyFine said size
-    key-says (leaf o) (leaf p) f f′ row R R′ rest rest′ h h′ e =
+    leaf-says : (o p : Own) → Says (leaf o) (leaf p)
+    unfolding said size
+    leaf-says o p row R R′ rest rest′ h h′ e =
         (one-says (topRow (leaf o) row R) (topRow (leaf p) row R′) (top-same (leaf o) (leaf p) row R R′ rest rest′ h h′ (here (leaf o) row e)), refl)
-    key-says (leaf o) (refer p) f f′ row R R′ rest rest′ h h′ e = absurd f′
-    key-says (leaf o) (hold p us) f f′ row R R′ rest rest′ h h′ e = absurd f′
-    key-says (leaf o) (declare p us u) f f′ row R R′ rest rest′ h h′ e = absurd f′
-    key-says (leaf o) (foreign p u) f f′ row R R′ rest rest′ h h′ e = absurd f′
-    key-says (leaf o) (damaged p) f f′ row R R′ rest rest′ h h′ e = absurd f′
-    key-says (refer o) u f f′ row R R′ rest rest′ h h′ e = absurd f
-    key-says (hold o ts) u f f′ row R R′ rest rest′ h h′ e = absurd f
-    key-says (declare o es t) u f f′ row R R′ rest rest′ h h′ e = absurd f
-    key-says (foreign o t) u f f′ row R R′ rest rest′ h h′ e = absurd f
-    key-says (damaged o) u f f′ row R R′ rest rest′ h h′ e = absurd f
+
+    key-says : (t u : Tree) → KeyFine s t → KeyFine s′ u → Says t u
+    key-says t u f f′ = rw (f .is, f′ .is) (leaf-says (f .own) (f′ .own))
 
     item-says : (b : Bool) (t u : Tree) (d k d′ k′ : ℕ) → (Fine s d k t → Fine s′ d′ k′ u → Says t u) → IfKey b (KeyFine s t) (Fine s d k t) → IfKey b (KeyFine s′ u) (Fine s′ d′ k′ u) → Says t u
     item-says true t u d k d′ k′ g f f′ = key-says t u f f′

@@ -46,13 +46,7 @@ module _ (table s : List ℕ) (n : ℕ) (few : n ≤ limit) (fit : (i : ℕ) →
   row-fits row = record { kind-fits = fit _; w0-fits = fit _; w1-fits = fit _; w2-fits = fit _; w3-fits = fit _ }
 
   key-worded : (t : Tree) (row : ℕ) (registry rest : List ℕ) → KeyFine s t → drop (wordsPerRow * row) table ≡ layout t row registry ++ rest → Worded t
-  unfolding KeyFine
-  key-worded (leaf o) row registry rest f h = subst (λ (w : Row). Fit (ownOf w)) (top-at table (leaf o) row registry rest h) (row-fits row)
-  key-worded (refer o) row registry rest f h = absurd f
-  key-worded (hold o ts) row registry rest f h = absurd f
-  key-worded (declare o es t) row registry rest f h = absurd f
-  key-worded (foreign o t) row registry rest f h = absurd f
-  key-worded (damaged o) row registry rest f h = absurd f
+  key-worded t row registry rest f h = rw (f .is) (subst (λ (w : Row). Fit (ownOf w)) (top-at table (leaf (f .own)) row registry rest (rw (f .is) at h)) (row-fits row))
 
   item-worded : (b : Bool) (t : Tree) (d k row : ℕ) (registry rest : List ℕ) → (Fine s d k t → Worded t) → IfKey b (KeyFine s t) (Fine s d k t)
       → drop (wordsPerRow * row) table ≡ layout t row registry ++ rest → Worded t

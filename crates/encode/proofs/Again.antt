@@ -7,8 +7,7 @@ use mathlib.Core.Bool.{Bool, true, false, cond}
 use mathlib.Core.List.{List, [], _++_}
 use lib.ListN.{length, take, drop, length-append}
 use lib.Dec.{eqb}
-use borrow.Author.Tests.{le-leb, ne-eqb, eqb-true, eqb-false}
-use Rattle.lists.proofs.Tests.{and-first, and-second}
+use borrow.Author.Tests.{le-leb, ne-eqb, eqb-false}
 use Rattle.wide.specs.Family.{form}
 use Rattle.wide.specs.Members.{keyLength, referenceNumber, declarationCount, foreignLength}
 use Rattle.rows.specs.Table.{Own, limit}
@@ -30,9 +29,9 @@ use Rattle.rules.specs.declared.kind.Kind.{Kind}
 use Rattle.rules.specs.declared.kind.Kind.the-variants.{Damaged}
 use Rattle.rules.specs.declared.shape.Shape.{Shape}
 use Rattle.rules.specs.declared.shape.Shape.the-variants as shape
-use Rattle.rules.specs.Shape.{named, spelt, fits, shapeFor, shapeIf, shapeOf}
+use Rattle.rules.specs.Shape.{named, fits, shapeFor, shapeIf, shapeOf, keyFits}
 use Rattle.rules.specs.Fine.{Spoilt, KeyFine, IfKey, Fine, Fines}
-use Rattle.rules.proofs.Says.{names, key-named, refer-own, hold-own, declare-own, declare-some, foreign-own, damaged-own, damaged-inside}
+use Rattle.rules.proofs.Says.{names, key-named, key-kind, key-spelt, refer-own, hold-own, declare-own, declare-some, foreign-own, damaged-own, damaged-inside}
 use Rattle.rules.proofs.Read.{force-next}
 use Rattle.encode.specs.Encode.{holderCount, headFor, headOf, hasBytes, encode, encodes, placed, placeds}
 use Rattle.encode.proofs.Moved.{told, value-moved}
@@ -154,23 +153,19 @@ module _ (s s′ : List ℕ) (d k at stop : ℕ) (short : length s′ ≤ limit)
 
 -- ---- a key
 
-key-again : (s s′ : List ℕ) (at stop : ℕ) → length s′ ≤ limit → (t : Tree) → KeyFine s t → Stand s′ at stop (encode s t) → keyed at (keyAt s′ at stop) ≡ right (placed s t at) (at + length (encode s t))
-unfolding KeyFine encode placed headFor
-key-again s s′ at stop short (leaf o) f h =
+key-again : (s s′ : List ℕ) (at stop : ℕ) → length s′ ≤ limit → (o : Own) → keyFits s o ≡ true → Stand s′ at stop (encode s (leaf o))
+    → keyed at (keyAt s′ at stop) ≡ right (placed s (leaf o) at) (at + length (encode s (leaf o)))
+unfolding encode placed headFor
+key-again s s′ at stop short o f h =
     let P : List ℕ = take (o .w1) (drop (o .w0) s) in
-    let m : o .kind ≡ kindKey = eqb-true (o .kind) kindKey (and-first (eqb (o .kind) kindKey) (spelt s (o .w0) (o .w1) (o .w2) (o .w3)) f) in
-    let z = spelling s (o .w0) (o .w1) (o .w2) (o .w3) (and-second (eqb (o .kind) kindKey) (spelt s (o .w0) (o .w1) (o .w2) (o .w3)) f) in
+    let m : o .kind ≡ kindKey = key-kind s o f in
+    let z = spelling s (o .w0) (o .w1) (o .w2) (o .w3) (key-spelt s o f) in
     subst (λ (K : Kind). Stand s′ at stop (headFor o 0 K ++ cond (hasBytes K) P [])
     → keyed at (keyAt s′ at stop) ≡ right (leaf (own (o .kind) (cond (hasBytes K) (at + length (headFor o 0 K)) (o .w0)) (o .w1) (o .w2) (o .w3))) (at + length (headFor o 0 K ++ cond (hasBytes K) P []))) (sym (key-named o m))
     (λ g.
     let next : at + length (form keyLength (o .w1)) + o .w1 ≡ at + length (form keyLength (o .w1) ++ P) = omega (arith, length-append (form keyLength (o .w1)) P, z .long) in
     ap (keyed at) (key-back s′ at stop P (o .w1) (z .long) short (z .said) g)
     ∙ ap₂ (λ (q : Own) (j : ℕ). right (leaf q) j) (own-same (sym m) refl refl (sym (z .no2)) (sym (z .no3))) next) h
-key-again s s′ at stop short (refer o) f h = absurd f
-key-again s s′ at stop short (hold o ts) f h = absurd f
-key-again s s′ at stop short (declare o es t) f h = absurd f
-key-again s s′ at stop short (foreign o t) f h = absurd f
-key-again s s′ at stop short (damaged o) f h = absurd f
 
 -- ---- trees
 
@@ -191,7 +186,7 @@ unfolding child
 child-again s s′ short t own d c k i at stop f w h = of (isKey c i) f
   where
     of : (b : Bool) → IfKey b (KeyFine s t) (Fine s d (inForce c k i) t) → inTurn b (value d s′) s′ (inForce c k i) at stop ≡ right (placed s t at) (at + length (encode s t))
-    of true g = key-again s s′ at stop short t g h
+    of true g = rw (g .is) (key-again s s′ at stop short (g .own) (g .fits) (rw (g .is) at h))
     of false g = own d (inForce c k i) at stop g w h
 
 -- ---- holders

@@ -7,10 +7,9 @@ use mathlib.Core.Bool.{Bool, true, false, cond}
 use mathlib.Core.List.{List, [], _++_, append-nil}
 use lib.ListN.{length, take, drop}
 use borrow.Author.Tests.{eq-eqb}
-use Rattle.lists.proofs.Tests.{and-first, and-second}
-use lib.Dec.{eqb}
+use Rattle.lists.proofs.Tests.{and-first}
 use Rattle.rows.specs.Table.{Own, limit}
-use Rattle.rows.specs.Kinds.{kindKey, own}
+use Rattle.rows.specs.Kinds.{own}
 use Rattle.format.specs.declared.head.Children.{Children}
 use Rattle.format.specs.declared.head.Children.the-variants.{Entries}
 use Rattle.format.specs.Head.{floatSizes}
@@ -20,10 +19,10 @@ use Rattle.format.specs.Value.{right, childrenOf, inForeign, whole, document, i
 use Rattle.rules.specs.declared.kind.Kind.{Kind}
 use Rattle.rules.specs.declared.kind.Kind.the-variants.{Constant, Small, Signed, Unsigned, Float, Text, Holds, Binary, Char, Reference, Declaration, Whole, Damaged, Key, Unknown}
 use Rattle.rules.specs.declared.shape.Shape.the-variants as shape
-use Rattle.rules.specs.Shape.{named, oneOf, span, spelt, fits, shapeOf, keyFits}
+use Rattle.rules.specs.Shape.{named, oneOf, span, spelt, fits, shapeOf}
 use Rattle.rules.specs.Fine.{KeyFine, IfKey, Fine, Fines}
 use Rattle.rules.proofs.Judged.{span-within}
-use Rattle.rules.proofs.Says.{spelt-within, damaged-inside}
+use Rattle.rules.proofs.Says.{spelt-within, key-inside, damaged-inside}
 use Rattle.encode.specs.Encode.{headOf, hasBytes, payload, moved, encode, encodes, placed, placeds}
 use Rattle.encode.specs.Said.{Said, one, over, under, none, more, said, saids}
 use Rattle.encode.proofs.Fronts.{Stand, stand-first, stand-second}
@@ -59,9 +58,6 @@ fits-inside s o Unknown b f = absurd (no-true f)
 pub leaf-inside : (s : List ℕ) (o : Own) → shapeOf s o ≡ shape.Leaf → hasBytes (named o) ≡ true → o .w0 + o .w1 ≤ length s
 leaf-inside s o e b = fits-inside s o (named o) b (told-of s o shape.Leaf e (λ z. let y : _≡_ {A = ℕ} 0 1 = cc in omega arith) .right)
 
-pub key-inside : (s : List ℕ) (o : Own) → keyFits s o ≡ true → o .w0 + o .w1 ≤ length s
-key-inside s o f = spelt-within s (o .w0) (o .w1) (o .w2) (o .w3) (and-second (eqb (o .kind) kindKey) (spelt s (o .w0) (o .w1) (o .w2) (o .w3)) f)
-
 -- ---- a row with no child
 
 -- its payload stands behind its head, and is the same
@@ -80,13 +76,8 @@ one-like s s′ at stop o f = of (hasBytes (named o)) f
     of false g h = refl
 
 key-like : (s s′ : List ℕ) (at stop : ℕ) (t : Tree) → KeyFine s t → Stand s′ at stop (encode s t) → said s′ (placed s t at) ≡ said s t
-unfolding KeyFine encode placed said
-key-like s s′ at stop (leaf o) f h = one-like s s′ at stop o (λ _. key-inside s o f) h
-key-like s s′ at stop (refer o) f h = absurd f
-key-like s s′ at stop (hold o ts) f h = absurd f
-key-like s s′ at stop (declare o es t) f h = absurd f
-key-like s s′ at stop (foreign o t) f h = absurd f
-key-like s s′ at stop (damaged o) f h = absurd f
+unfolding encode placed said
+key-like s s′ at stop t f h = rw (f .is) (one-like s s′ at stop (f .own) (λ _. key-inside s (f .own) (f .fits)) (rw (f .is) at h))
 
 -- ---- trees
 

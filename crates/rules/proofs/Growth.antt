@@ -117,14 +117,14 @@ module _ (table : List ℕ) (n : ℕ) (s : List ℕ) (room : n ≤ lent table) w
   leaf-inner F registry row h f = one-inner F registry row (leaf (ownOf (rowAt table row))) h refl (own-words (rowAt table row) (row + 1)) f
 
   pub key-sound : (registry : List ℕ) (row : ℕ) → Sound (KeyFine s) table n registry row (growKey table n s row)
-  unfolding growKey KeyFine
+  unfolding growKey
   key-sound registry row =
       let w : Row = rowAt table row in
       let T : Bool = keyFits s (ownOf w) in
       cond-case (Sound (KeyFine s) table n registry row) (ltb row n) (keyRow table n s row w) bad
       (λ h. ends-sound (KeyFine s) registry row (cond T (grew (leaf (ownOf w)) (row + 1)) bad)
       (cond-case (Inner (KeyFine s) table n registry row) T (grew (leaf (ownOf w)) (row + 1)) bad
-      (λ q. leaf-inner (KeyFine s) registry row (ltb-true row n h) q)
+      (λ q. leaf-inner (KeyFine s) registry row (ltb-true row n h) (record { own = ownOf w; is = refl; fits = q }))
       (λ _. tt)))
       (λ _. tt)
 

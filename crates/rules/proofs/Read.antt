@@ -19,7 +19,7 @@ use Rattle.wide.proofs.Sound.{sound-integers}
 use Rattle.text.specs.declared.answer.Text.{Text}
 use Rattle.text.specs.declared.answer.Text.the-variants.{WellFormed}
 use Rattle.text.specs.Check.{textOf}
-use Rattle.rows.specs.Kinds.{kindSmall, kindSigned, kindUnsigned, constantOwn, spanOwn, holderOwn, charOwn, foreignOwn, damagedOwn}
+use Rattle.rows.specs.Kinds.{kindSmall, kindSigned, kindUnsigned, kindKey, constantOwn, spanOwn, holderOwn, charOwn, foreignOwn, damagedOwn}
 use Rattle.format.specs.declared.refusal.Refusal.{Refusal}
 use Rattle.format.specs.declared.refusal.Refusal.the-variants as why
 use Rattle.format.specs.declared.head.Spelling.{Spelling}
@@ -176,8 +176,8 @@ FinesAt s d c k i n (ran ts next) = (many ts ≡ n) × Fines s d c k i ts
 FinesAt s d c k i n (broke e place) = Unit {0}
 
 keyed-fine : (s : List ℕ) (at stop : ℕ) → stop ≤ length s → (x : Spelling) → Spelled s at stop x → FineAt (KeyFine s) (keyed at x)
-unfolding KeyFine
-keyed-fine s at stop l (At place n) w = spelt-yes s place n (omega (arith, w .within)) (w .spelt)
+keyed-fine s at stop l (At place n) w =
+    record { own = spanOwn kindKey place n; is = refl; fits = spelt-yes s place n (omega (arith, w .within)) (w .spelt) }
 keyed-fine s at stop l (No e) w = tt
 
 pub force-next : (c : Children) (k i : ℕ) → after (isEntry c) (inForce c k i) ≡ inForce c k (i + 1)

@@ -17,7 +17,7 @@ use Rattle.format.specs.declared.head.Children.the-variants.{Entries}
 use Rattle.format.specs.Tree.{Tree, leaf, refer, hold, declare, foreign, damaged, Trees, none, more, many, size, sizes}
 use Rattle.format.specs.Value.{Reading, childrenOf, isKey}
 use Rattle.format.specs.Layout.{isEntry, layout, layouts, grown, entries, inBody, aimed}
-use Rattle.format.proofs.Layouts.{no-entry, length-layout, length-layouts, length-body, ownAt, topRow, below, layout-top, top-at}
+use Rattle.format.proofs.Layouts.{no-entry, length-layout, length-layouts, length-body, size-pos, ownAt, topRow, below, layout-top, top-at}
 use Rattle.rules.specs.declared.shape.Shape.{Shape}
 use Rattle.rules.specs.declared.shape.Shape.the-variants.{Leaf, Refer, Hold, Declare, Whole, Damaged}
 use Rattle.rules.specs.Shape.{shapeOf}
@@ -60,13 +60,9 @@ module _ (table : List ℕ) (n : ℕ) (s : List ℕ) where
 
   key-at : (t : Tree) (row : ℕ) (registry rest : List ℕ) → KeyFine s t → drop (wordsPerRow * row) table ≡ layout t row registry ++ rest → row + size t ≤ n
       → growKey table n s row ≡ grew t (row + size t)
-  unfolding KeyFine size growKey
-  key-at (leaf o) row registry rest f h b = rw (lt-ltb row n (omega arith), top-at table (leaf o) row registry rest h, f, eq-eqb (row + 1) (row + 1) refl)
-  key-at (refer o) row registry rest f h b = absurd f
-  key-at (hold o ts) row registry rest f h b = absurd f
-  key-at (declare o es t) row registry rest f h b = absurd f
-  key-at (foreign o t) row registry rest f h b = absurd f
-  key-at (damaged o) row registry rest f h b = absurd f
+  unfolding size growKey
+  key-at t row registry rest f h b =
+      rw (f .is, lt-ltb row n (omega (arith, size-pos t)), top-at table (leaf (f .own)) row registry rest (rw (f .is) at h), f .fits, eq-eqb (row + 1) (row + 1) refl)
 
   item-at : (key : Bool) (t : Tree) (d row : ℕ) (registry rest : List ℕ) → (Fine s d (length registry) t → grow table n s d registry row ≡ grew t (row + size t))
       → IfKey key (KeyFine s t) (Fine s d (length registry) t) → drop (wordsPerRow * row) table ≡ layout t row registry ++ rest → row + size t ≤ n

@@ -19,7 +19,7 @@ use Rattle.rules.specs.declared.kind.Kind.{Kind}
 use Rattle.rules.specs.declared.kind.Kind.the-variants.{Constant, Small, Signed, Unsigned, Float, Text, Holds, Binary, Char, Reference, Declaration, Whole, Damaged, Key, Unknown}
 use Rattle.rules.specs.declared.shape.Shape.{Shape}
 use Rattle.rules.specs.declared.shape.Shape.the-variants as shape
-use Rattle.rules.specs.Shape.{named, blank, inside, oneOf, span, spelt, fits, shapeIf, shapeOf}
+use Rattle.rules.specs.Shape.{named, blank, inside, oneOf, span, spelt, fits, shapeIf, shapeOf, keyFits}
 use Rattle.lists.proofs.Tests.{and-first, and-second}
 use Rattle.rules.proofs.Judged.{span-within}
 
@@ -202,6 +202,16 @@ HasInside l o shape.Damaged = ⊥
 pub spelt-within : (s : List ℕ) (w0 w1 w2 w3 : ℕ) → spelt s w0 w1 w2 w3 ≡ true → w0 + w1 ≤ length s
 unfolding spelt
 spelt-within s w0 w1 w2 w3 e = span-within s w0 w1 w2 w3 (and-first (span s w0 w1 w2 w3) (wellFormed (textOf (take w1 (drop w0 s)))) e)
+
+module _ (s : List ℕ) (o : Own) (f : keyFits s o ≡ true) where
+  pub key-kind : o .kind ≡ kindKey
+  key-kind = eqb-true (o .kind) kindKey (and-first (eqb (o .kind) kindKey) (spelt s (o .w0) (o .w1) (o .w2) (o .w3)) f)
+
+  pub key-spelt : spelt s (o .w0) (o .w1) (o .w2) (o .w3) ≡ true
+  key-spelt = and-second (eqb (o .kind) kindKey) (spelt s (o .w0) (o .w1) (o .w2) (o .w3)) f
+
+  pub key-inside : o .w0 + o .w1 ≤ length s
+  key-inside = spelt-within s (o .w0) (o .w1) (o .w2) (o .w3) key-spelt
 
 module _ (s : List ℕ) (o : Own) (x : Shape) (is : shapeOf s o ≡ x) where
   abbrev P : Shape → Type 0

@@ -23,14 +23,11 @@ pub record Spoilt (s : List ℕ) (levels k : ℕ) (o : Own) : Type 0 where
   pub reads : whole (o .w0 + o .w1) (value levels s k (o .w0) (o .w0 + o .w1)) ≡ wrong why place
   pub verdict : o .w2 ≡ refusalNumber why
 
--- a record's key
-unfoldable pub KeyFine : List ℕ → Tree → Type 0
-KeyFine s (leaf o) = keyFits s o ≡ true
-KeyFine s (refer o) = ⊥
-KeyFine s (hold o ts) = ⊥
-KeyFine s (declare o es t) = ⊥
-KeyFine s (foreign o t) = ⊥
-KeyFine s (damaged o) = ⊥
+-- a record's key: a leaf
+pub record KeyFine (s : List ℕ) (t : Tree) : Type 0 where
+  pub own : Own
+  pub is : t ≡ leaf own
+  pub fits : keyFits s own ≡ true
 
 abbrev pub IfKey : Bool → Type 0 → Type 0 → Type 0
 IfKey true A B = A

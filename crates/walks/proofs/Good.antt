@@ -50,12 +50,20 @@ unfoldable pub Linked : ℕ → Spots → Type 0
 Linked row nil = Unit {0}
 Linked row (cons x xs) = (rowOf x ≡ row) × Linked (endOf x) xs
 
--- a tree that is no key is fine
-pub value-fine : (s : List ℕ) (k : ℕ) (t : Tree) → (KeyFine s t → ⊥) → (r : Right s k t) → Fine s (r .levels) k t
+-- a tree that is no leaf is no key
+abbrev pub NoLeaf : Tree → Type 0
+NoLeaf (leaf o) = ⊥
+NoLeaf (refer o) = Unit {0}
+NoLeaf (hold o ts) = Unit {0}
+NoLeaf (declare o es t) = Unit {0}
+NoLeaf (foreign o t) = Unit {0}
+NoLeaf (damaged o) = Unit {0}
+
+pub value-fine : (s : List ℕ) (k : ℕ) (t : Tree) → NoLeaf t → (r : Right s k t) → Fine s (r .levels) k t
 value-fine s k t never r = of (r .key) (r .fine)
   where
     of : (b : Bool) → IfKey b (KeyFine s t) (Fine s (r .levels) k t) → Fine s (r .levels) k t
-    of true f = absurd (never f)
+    of true f = absurd (subst NoLeaf (f .is) never)
     of false f = f
 
 -- ---- registries
@@ -189,22 +197,22 @@ module _ (table : List ℕ) (n : ℕ) (s : List ℕ) where
 
   -- what stands below a good spot is good
   pub children-good : (x : Spot) → Good table n s x → Goods table n s (children x)
-  unfolding children Good KeyFine Fine size Before
+  unfolding children Good Fine size Before
   children-good (spot (leaf o) row force) g = tt
   children-good (spot (refer o) row force) g = tt
   children-good (spot (hold o ts) row force) g =
       let a = g .0 in
-      let f = value-fine s (length (rowsOf force)) (hold o ts) (λ k. k) (a .right) in
+      let f = value-fine s (length (rowsOf force)) (hold o ts) tt (a .right) in
       held-good ts (a .right .levels - 1) (childrenOf (f .1 .0)) 0 (row + 1) force (a .rest) (a .room) (no-entry (f .1 .0)) (omega (arith, a .within))
       (below-at (hold o ts) row (rowsOf force) a) (f .1 .3) (before-on row (row + 1) force (omega arith) (g .1)) (g .2)
   children-good (spot (declare o es t) row force) g =
       let a = g .0 in
-      let f = value-fine s (length (rowsOf force)) (declare o es t) (λ k. k) (a .right) in
+      let f = value-fine s (length (rowsOf force)) (declare o es t) tt (a .right) in
       declared-good es t (a .right .levels - 1) (o .w0) (row + 1) nil (a .rest) (a .room) (omega (arith, a .within))
       (below-at (declare o es t) row (rowsOf force) a) (f .3) (f .4) (zero-add (many es) ∙ f .2) tt tt
   children-good (spot (foreign o t) row force) g =
       let a = g .0 in
-      let f = value-fine s (length (rowsOf force)) (foreign o t) (λ k. k) (a .right) in (
+      let f = value-fine s (length (rowsOf force)) (foreign o t) tt (a .right) in (
         body-good t (a .right .levels - 1) (row + 1) force (a .rest) (a .room) (omega (arith, a .within))
             (below-at (foreign o t) row (rowsOf force) a) (f .2) (before-on row (row + 1) force (omega arith) (g .1)) (g .2),
         tt,

@@ -16,9 +16,9 @@ use Rattle.format.specs.Layout.{aimed}
 use Rattle.format.proofs.Layouts.{ownAt}
 use Rattle.rules.specs.declared.shape.Shape.{Shape}
 use Rattle.rules.specs.declared.shape.Shape.the-variants.{Bad, Leaf, Refer, Hold, Declare, Whole, Damaged}
-use Rattle.rules.specs.Shape.{spelt, shapeOf}
+use Rattle.rules.specs.Shape.{shapeOf, keyFits}
 use Rattle.rules.specs.Fine.{KeyFine, IfKey, Fine, Stands}
-use Rattle.rules.proofs.Says.{HasInside, spelt-within, float-inside, text-inside, binary-inside, key-bad, aimed-shape}
+use Rattle.rules.proofs.Says.{HasInside, key-inside, float-inside, text-inside, binary-inside, key-bad, aimed-shape}
 use Rattle.walker.specs.declared.standing.Standing.{Standing}
 use Rattle.walker.specs.declared.step.Step.{Step}
 use Rattle.walker.specs.Walk.{standing, startOf}
@@ -55,9 +55,8 @@ module _ (s : List ℕ) where
       (λ q. absurd (subst Met (key-bad s o x e q) met))
 
   leaf-inside : (d k : ℕ) (o : Own) (b : Bool) → IfKey b (KeyFine s (leaf o)) (Fine s d k (leaf o)) → hasPayload (o .kind) ≡ true → o .w0 + o .w1 ≤ length s
-  unfolding KeyFine Fine
-  leaf-inside d k o true f h =
-      spelt-within s (o .w0) (o .w1) (o .w2) (o .w3) (and-second (eqb (o .kind) kindKey) (spelt s (o .w0) (o .w1) (o .w2) (o .w3)) f)
+  unfolding Fine
+  leaf-inside d k o true f h = let q = f .is in let e : f .own ≡ o = cc in key-inside s o (subst (λ (p : Own). keyFits s p ≡ true) e (f .fits))
   leaf-inside d k o false f h = of-shape o Leaf (f .1) tt h
 
   abbrev partIs : Own → Part
@@ -72,15 +71,15 @@ module _ (s : List ℕ) where
 
   -- a right tree's own row has the tree's payload
   top-part : (k : ℕ) (registry : List ℕ) (t : Tree) → Right s k t → partIs (ownAt t registry) ≡ ownPart t
-  unfolding KeyFine Fine
+  unfolding Fine
   top-part k registry (leaf o) r = leaf-part k o r
   top-part k registry (refer o) r =
       let e : ℕ = getD registry (o .w0) 0 in
-      no-part (aimed o e) (of-shape (aimed o e) Refer (aimed-shape s o e (value-fine s k (refer o) (λ f. f) r .1)) tt)
-  top-part k registry (hold o ts) r = let f = value-fine s k (hold o ts) (λ f. f) r in no-part o (of-shape o (Hold (f .1 .0)) (f .1 .1) tt)
-  top-part k registry (declare o es t) r = no-part o (of-shape o Declare (value-fine s k (declare o es t) (λ f. f) r .1) tt)
-  top-part k registry (foreign o t) r = no-part o (of-shape o Whole (value-fine s k (foreign o t) (λ f. f) r .1) tt)
-  top-part k registry (damaged o) r = no-part o (of-shape o Damaged (value-fine s k (damaged o) (λ f. f) r .1) tt)
+      no-part (aimed o e) (of-shape (aimed o e) Refer (aimed-shape s o e (value-fine s k (refer o) tt r .1)) tt)
+  top-part k registry (hold o ts) r = let f = value-fine s k (hold o ts) tt r in no-part o (of-shape o (Hold (f .1 .0)) (f .1 .1) tt)
+  top-part k registry (declare o es t) r = no-part o (of-shape o Declare (value-fine s k (declare o es t) tt r .1) tt)
+  top-part k registry (foreign o t) r = no-part o (of-shape o Whole (value-fine s k (foreign o t) tt r .1) tt)
+  top-part k registry (damaged o) r = no-part o (of-shape o Damaged (value-fine s k (damaged o) tt r .1) tt)
 
 module _ (table : List ℕ) (n : ℕ) (s : List ℕ) where
   -- a good spot's payload is its tree's

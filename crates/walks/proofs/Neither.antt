@@ -2,19 +2,15 @@
 use mathlib.Core.Path.{_≡_, sym, ap, _∙_}
 use Prim.Native.Nat.{ℕ}
 use native.Mathlib.Omega.{arith}
-use lib.Dec.{eqb}
-use borrow.Author.Tests.{eqb-true}
 use mathlib.Core.Bool.{Bool, true, false}
 use mathlib.Core.List.{List}
-use Rattle.lists.proofs.Tests.{and-first}
 use Rattle.rows.specs.Table.{Own}
 use Rattle.rows.specs.Kinds.{kindReference, kindDeclaration, kindKey}
 use Rattle.format.specs.Tree.{Tree, leaf, refer, hold, declare, foreign, damaged}
 use Rattle.format.proofs.Layouts.{ownAt}
 use Rattle.rules.specs.declared.shape.Shape.the-variants.{Leaf, Hold, Whole, Damaged}
-use Rattle.rules.specs.Shape.{spelt}
 use Rattle.rules.specs.Fine.{KeyFine, IfKey, Fine}
-use Rattle.rules.proofs.Says.{refer-own, declare-own, reference-shape, declaration-shape}
+use Rattle.rules.proofs.Says.{key-kind, refer-own, declare-own, reference-shape, declaration-shape}
 use Rattle.walks.proofs.Good.{Right}
 
 -- a kind that is neither
@@ -33,15 +29,9 @@ KindIs (damaged o) kind = Neither kind
 
 module _ (s : List ℕ) (k : ℕ) (registry : List ℕ) where
   of-key : (t : Tree) → KeyFine s t → KindIs t (ownAt t registry .kind)
-  unfolding KeyFine
-  of-key (leaf o) f =
-      let e : o .kind ≡ kindKey = eqb-true (o .kind) kindKey (and-first (eqb (o .kind) kindKey) (spelt s (o .w0) (o .w1) (o .w2) (o .w3)) f) in
-      record { no-reference = λ q. absurd (omega (arith, sym e ∙ q)); no-declaration = λ q. absurd (omega (arith, sym e ∙ q)) }
-  of-key (refer o) f = absurd f
-  of-key (hold o ts) f = absurd f
-  of-key (declare o es t) f = absurd f
-  of-key (foreign o t) f = absurd f
-  of-key (damaged o) f = absurd f
+  of-key t f =
+      let e : f .own .kind ≡ kindKey = key-kind s (f .own) (f .fits) in
+      rw (f .is) (record { no-reference = λ q. absurd (omega (arith, sym e ∙ q)); no-declaration = λ q. absurd (omega (arith, sym e ∙ q)) })
 
   of-value : (d : ℕ) (t : Tree) → Fine s d k t → KindIs t (ownAt t registry .kind)
   unfolding Fine

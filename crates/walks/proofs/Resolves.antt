@@ -14,7 +14,7 @@ use Rattle.rows.specs.Kinds.{kindReference, kindDeclaration}
 use Rattle.format.specs.Tree.{Tree, leaf, refer, hold, declare, foreign, damaged, Trees, none, more, many, size, sizes}
 use Rattle.format.specs.Value.{inForeign}
 use Rattle.format.proofs.Layouts.{size-pos, ownAt, topRow}
-use Rattle.rules.specs.Fine.{KeyFine, Fine, Stands}
+use Rattle.rules.specs.Fine.{Fine, Stands}
 use Rattle.resolve.specs.declared.moved.Move.{Move}
 use Rattle.resolve.specs.declared.moved.Move.the-variants as go
 use Rattle.resolve.specs.declared.resolved.Resolved.{Resolved}
@@ -217,7 +217,7 @@ module _ (table : List ℕ) (n : ℕ) (s : List ℕ) where
       stop (at-move row (omega (arith, a .1, a .2)) w e ∙ neither-stop row w z) (subst (λ (r : Row). Neither (r .kind)) (sym e) z)
 
   moves : (x : Spot) → Good table n s x → Snug x → Moves x
-  unfolding Good Snug size KeyFine Fine declared children
+  unfolding Good Snug size Fine declared children
   moves (spot (leaf o) row force) g k = let R : List ℕ = rowsOf force in rests (leaf o) row force g (kind-is s (length R) R (leaf o) (g .0 .right))
   moves (spot (refer o) row force) g k =
       let a = good-own table n s (spot (refer o) row force) g in
@@ -236,7 +236,7 @@ module _ (table : List ℕ) (n : ℕ) (s : List ℕ) where
       let R : List ℕ = rowsOf force in
       let end : ℕ = row + (1 + (sizes es + size t)) in
       let m : ℕ = 1 + (sizes es + size t) + total force - 1 in
-      let f = value-fine s (length R) (declare o es t) (λ y. y) (g .0 .right) in
+      let f = value-fine s (length R) (declare o es t) tt (g .0 .right) in
       let is : o .kind ≡ kindDeclaration = kind-is s (length R) R (declare o es t) (g .0 .right) in
       let c = value-right es t (row + 1) end nil (children-good table n s x g) (omega arith) in
       on (row + 1 + sizes es)

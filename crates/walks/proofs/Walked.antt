@@ -13,7 +13,7 @@ use Rattle.rows.specs.Table.{wordsPerRow, Own, rowAt, lent}
 use Rattle.rows.specs.Kinds.{kindReference}
 use Rattle.format.specs.Tree.{Tree, leaf, refer, hold, declare, foreign, damaged, Trees, none, more, size, sizes}
 use Rattle.format.proofs.Layouts.{size-pos, ownAt, topRow, top-at}
-use Rattle.rules.specs.Fine.{KeyFine, Fine, Stands}
+use Rattle.rules.specs.Fine.{Fine, Stands}
 use Rattle.rules.proofs.Exact.{laid-out}
 use Rattle.walker.specs.declared.step.Step.{Step}
 use Rattle.walker.specs.declared.step.Step.the-variants.{To, NoStep, BadTable}
@@ -24,8 +24,8 @@ use Rattle.walks.proofs.Neither.{kind-is}
 
 -- a reference's entry is in force
 pub refer-known : (s : List ℕ) (k : ℕ) (o : Own) → Right s k (refer o) → o .w0 < k
-unfolding KeyFine Fine
-refer-known s k o r = value-fine s k (refer o) (λ f. f) r .3
+unfolding Fine
+refer-known s k o r = value-fine s k (refer o) tt r .3
 
 -- ---- rows
 

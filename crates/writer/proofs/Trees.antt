@@ -22,11 +22,11 @@ use Rattle.format.proofs.Layouts.{length-layout, length-layouts, topRow, top-at
 use Rattle.rules.specs.declared.shape.Shape.the-variants as shape
 use Rattle.rules.specs.Shape.{named, shapeOf}
 use Rattle.rules.specs.Fine.{KeyFine, IfKey, Fine, Fines}
-use Rattle.rules.proofs.Says.{refer-own, hold-own, declare-own, foreign-own, damaged-inside}
+use Rattle.rules.proofs.Says.{key-inside, refer-own, hold-own, declare-own, foreign-own, damaged-inside}
 use Rattle.rules.proofs.Regrow.{behind, rest-at}
 use Rattle.encode.specs.Encode.{headOf, hasBytes, encode, encodes}
 use Rattle.encode.proofs.Again.{reference-head}
-use Rattle.encode.proofs.Alike.{leaf-inside, key-inside}
+use Rattle.encode.proofs.Alike.{leaf-inside}
 use Rattle.plan.specs.Own.{ownHead}
 use Rattle.spell.specs.Own.{Inside, ownBytes}
 use Rattle.writer.specs.Contracts.{Spells, none, next}
@@ -106,13 +106,8 @@ module _ (table s : List ℕ) where
   -- ---- trees
 
   key-spells : (t : Tree) (row : ℕ) (registry rest : List ℕ) → KeyFine s t → drop (wordsPerRow * row) table ≡ layout t row registry ++ rest → Spells table s row (row + size t) (encode s t)
-  unfolding KeyFine encode size Inside ownBytes ownHead
-  key-spells (leaf o) row registry rest f h = one-spells (leaf o) row registry rest h refl (λ _. key-inside s o f) _ refl
-  key-spells (refer o) row registry rest f h = absurd f
-  key-spells (hold o ts) row registry rest f h = absurd f
-  key-spells (declare o es t) row registry rest f h = absurd f
-  key-spells (foreign o t) row registry rest f h = absurd f
-  key-spells (damaged o) row registry rest f h = absurd f
+  unfolding encode size Inside ownBytes ownHead
+  key-spells t row registry rest f h = rw (f .is) (one-spells (leaf (f .own)) row registry rest (rw (f .is) at h) refl (λ _. key-inside s (f .own) (f .fits)) _ refl)
 
   item-spells : (b : Bool) (t : Tree) (d k row : ℕ) (registry rest : List ℕ) → (Fine s d k t → Spells table s row (row + size t) (encode s t)) → IfKey b (KeyFine s t) (Fine s d k t)
       → drop (wordsPerRow * row) table ≡ layout t row registry ++ rest → Spells table s row (row + size t) (encode s t)
