@@ -18,9 +18,9 @@ use Rattle.writer.specs.declared.written.Written.the-variants.{Done, BadTable, 
 use Rattle.writer.specs.Written.{documentOf, fitted, written, left, outputAfter}
 use Rattle.demands.specs.declared.back.Back.{Back}
 use Rattle.demands.specs.declared.back.Back.the-variants.{Unwritten, Read}
-use Rattle.demands.specs.Alike.{Alike, SameRows}
+use Rattle.demands.specs.Alike.{SameRows}
 use Rattle.demands.specs.Back.{readBack, backAfter, backOf, tableBack, ReadsBack}
-use Rattle.demands.proofs.Reading.{accepted-back, rows-back, alike-back}
+use Rattle.demands.proofs.Reading.{accepted-back, rows-back, rules-back}
 
 -- ---- what the writer's answers mean
 
@@ -113,7 +113,7 @@ module _ (depth : ℕ) (table : List ℕ) (n : ℕ) (s : List ℕ) (room : ℕ) 
       record {
         accepted = e ∙ ap (λ (w : Written). readBack depth w D back) (is-done y few fits) ∙ ap Read (accepted-back depth table n s fit y few back held);
         rows = subst (λ (x : List ℕ). SameRows table s x D n) (sym q) (rows-back depth table n s fit y few back held);
-        alike = subst (λ (x : List ℕ). Alike depth table n s x n D) (sym q) (alike-back depth table n s fit y few back held);
+        right = subst (λ (x : List ℕ). rulesHold depth x n D ≡ true) (sym q) (rules-back depth table n s fit y few back held);
       }
 
 -- ---- an answer that is not Done

@@ -14,7 +14,7 @@ use Rattle.format.specs.Value.{document, right}
 use Rattle.format.specs.Answer.{answer, tableAfter}
 use Rattle.rules.specs.Grow.{rulesHold}
 use Rattle.rules.specs.Fine.{Stands}
-use Rattle.rules.proofs.Exact.{yes-stands, laid-out, stands-grows, stands-yes, accepted, read-stands}
+use Rattle.rules.proofs.Exact.{yes-stands, laid-out, stands-yes, accepted, read-stands}
 use Rattle.encode.specs.Encode.{encode, placed}
 use Rattle.encode.specs.Said.{said}
 use Rattle.encode.proofs.Worded.{Worded}
@@ -22,15 +22,10 @@ use Rattle.encode.proofs.Alike as written
 use Rattle.encode.proofs.Shortest as shortest
 use Rattle.writer.specs.Written.{documentOf}
 use Rattle.writer.proofs.Asks.{stands-document}
-use Rattle.demands.specs.Alike.{says, saidBy, saying, Alike, SameRows}
+use Rattle.demands.specs.Alike.{SameRows}
 use Rattle.demands.proofs.Words.{tree-worded}
 use Rattle.demands.proofs.Rows.{placed-size, tree-same}
 use Rattle.demands.proofs.Same.{stands-say}
-
--- the tree that stands in a table is what the table says
-stands-saying : (depth : ℕ) (table : List ℕ) (n : ℕ) (s : List ℕ) (t : Tree) → Stands depth table n s t → saying depth table n s ≡ says (said s t)
-unfolding saying
-stands-saying depth table n s t st = ap (saidBy s) (stands-grows depth table n s t st)
 
 module _ (depth : ℕ) (table : List ℕ) (n : ℕ) (s : List ℕ) (fit : (i : ℕ) → getD table i 0 < 2 ^ 32) (yes : rulesHold depth table n s ≡ true) where
   abbrev t : Tree
@@ -76,17 +71,9 @@ module _ (depth : ℕ) (table : List ℕ) (n : ℕ) (s : List ℕ) (fit : (i : �
           tree-same s D table (tableAfter depth D back) t (suc depth) 0 (st .fine) 0 0 [] (drop (wordsPerRow * n) table) (drop (wordsPerRow * n) (tableAfter depth D back)) says-same (laid-out depth table n s t st)
           (laid-out depth (tableAfter depth D back) n D (placed s t 0) stands-back) i (omega arith) (omega (arith, l, st .rows))
 
-      -- a table alike
-      pub alike-back : Alike depth table n s (tableAfter depth D back) n D
-      alike-back =
-          record {
-            right = yes;
-            right′ = stands-yes depth (tableAfter depth D back) n D (placed s t 0) stands-back;
-            same =
-                stands-saying depth table n s t st
-                ∙ ap says (sym says-same)
-                ∙ sym (stands-saying depth (tableAfter depth D back) n D (placed s t 0) stands-back);
-          }
+      -- which obey the row rules
+      pub rules-back : rulesHold depth (tableAfter depth D back) n D ≡ true
+      rules-back = stands-yes depth (tableAfter depth D back) n D (placed s t 0) stands-back
 
 -- every document whose rows are the same, places aside, with the same payload bytes, has at least as many bytes
 pub nothing-shorter : (depth : ℕ) (table : List ℕ) (n : ℕ) (s : List ℕ) → rulesHold depth table n s ≡ true → (s′ : List ℕ) → Bytes s′ → (table′ : List ℕ) → answer depth s′ table′ ≡ Accepted n

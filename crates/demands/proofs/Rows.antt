@@ -7,21 +7,19 @@ use Prim.Native.Nat.{ℕ, _+_, _-_, _*_, _≤_, _<_}
 use native.Mathlib.Omega.{arith}
 use lib.ListN.{length, getD, take, drop}
 use Rattle.wide.proofs.Numbers.{either}
-use Rattle.wide.proofs.Ranks.{apart}
 use Rattle.rows.specs.declared.row.Row.{Row}
 use Rattle.rows.specs.Table.{wordsPerRow, Own, rowOf, rowAt}
-use Rattle.rows.specs.Kinds.{own}
 use Rattle.format.specs.declared.head.Children.{Children}
 use Rattle.format.specs.declared.head.Children.the-variants.{Entries}
 use Rattle.format.specs.Tree.{Tree, leaf, refer, hold, declare, foreign, damaged, Trees, none, more, size, sizes}
 use Rattle.format.specs.Value.{childrenOf, inForeign, isKey}
 use Rattle.format.specs.Layout.{layout, layouts, grown, entries, inBody, aimed}
 use Rattle.format.proofs.Layouts.{length-layout, length-layouts, topRow, top-at}
-use Rattle.rules.specs.Shape.{named}
 use Rattle.rules.specs.Fine.{KeyFine, IfKey, Fine, Fines}
 use Rattle.rules.proofs.Regrow.{behind, rest-at}
-use Rattle.encode.specs.Encode.{headOf, hasBytes, payload, moved, encode, encodes, placed, placeds}
+use Rattle.encode.specs.Encode.{headOf, payload, moved, encode, encodes, placed, placeds}
 use Rattle.encode.specs.Said.{one, said, saids}
+use Rattle.encode.proofs.Places.{moved-again}
 use Rattle.writer.proofs.Trees.{Bare, hold-bare, declare-bare, foreign-bare, refer-bare}
 use Rattle.demands.specs.Alike.{SameRow}
 
@@ -54,20 +52,11 @@ module _ (s s′ : List ℕ) where
   -- without bytes of the data
   bare-same : (o : Own) → Bare o → (end end′ : ℕ) → end ≡ end′ → SameRow s (rowOf o end) s′ (rowOf o end′)
   bare-same o b end end′ e =
-      record { kind = refl; end = e; w0 = λ _. refl; w1 = refl; w2 = refl; w3 = refl; payload = λ t. absurd (apart (hasBytes (named o)) t b) }
+      record { end = e; own = refl; bytes = rw b }
 
   -- with them, at another place
   one-same : (o : Own) (end place : ℕ) → one (moved (moved o place) 0) (payload s′ (moved o place)) ≡ one (moved o 0) (payload s o) → SameRow s (rowOf o end) s′ (rowOf (moved o place) end)
-  unfolding named
-  one-same o end place = of (hasBytes (named o)) refl
-    where
-      of : (b : Bool) → hasBytes (named o) ≡ b
-          → one (own (o .kind) (cond b 0 (cond b place (o .w0))) (o .w1) (o .w2) (o .w3)) (cond b (take (o .w1) (drop (cond b place (o .w0)) s′)) [])
-          ≡ one (own (o .kind) (cond b 0 (o .w0)) (o .w1) (o .w2) (o .w3)) (cond b (take (o .w1) (drop (o .w0) s)) [])
-          → SameRow s (rowOf o end) s′ (rowOf (own (o .kind) (cond b place (o .w0)) (o .w1) (o .w2) (o .w3)) end)
-      of true e q =
-          record { kind = refl; end = refl; w0 = λ f. absurd (apart (hasBytes (named o)) e f); w1 = refl; w2 = refl; w3 = refl; payload = λ _. cc }
-      of false e q = record { kind = refl; end = refl; w0 = λ _. refl; w1 = refl; w2 = refl; w3 = refl; payload = λ f. absurd (apart (hasBytes (named o)) f e) }
+  one-same o end place q = record { end = refl; own = sym (moved-again o place 0); bytes = cc }
 
   -- ---- trees in two tables
 

@@ -7,7 +7,6 @@ use native.Mathlib.Omega.{arith}
 use lib.ListN.{getD, take, drop}
 use Rattle.rows.specs.declared.row.Row.{Row}
 use Rattle.rows.specs.Table.{wordsPerRow, Own, ownOf, rowAt}
-use Rattle.rows.specs.Kinds.{own}
 use Rattle.format.specs.declared.head.Holder.{Holder}
 use Rattle.format.specs.declared.head.Children.{Children}
 use Rattle.format.specs.declared.head.Children.the-variants.{Entries}
@@ -26,6 +25,7 @@ use Rattle.rules.proofs.Says.{aimed-shape}
 use Rattle.encode.specs.Encode.{hasBytes, payload, moved}
 use Rattle.encode.specs.Said.{Said, one, over, under, said, saids}
 use Rattle.encode.specs.Said as says
+use Rattle.encode.proofs.Places.{moved-named, moved-bare}
 use Rattle.encode.proofs.Again.{told-of}
 use Rattle.writer.proofs.Trees.{Bare, hold-bare, declare-bare, foreign-bare, refer-bare}
 use Rattle.demands.specs.Alike.{SameRow, SameRows}
@@ -63,10 +63,9 @@ fine-sort s d k R (declare o es t) f = ap sortOf (shape-is s o shape.Declare (f 
 fine-sort s d k R (foreign o t) f = ap sortOf (shape-is s o shape.Whole (f .1) (λ z. let y : _≡_ {A = ℕ} 0 1 = cc in omega arith))
 fine-sort s d k R (damaged o) f = ap sortOf (shape-is s o shape.Damaged (f .1) (λ z. let y : _≡_ {A = ℕ} 0 1 = cc in omega arith))
 
--- what a row's kind names is told by its number and w2
-named-same : (o p : Own) → o .kind ≡ p .kind → o .w2 ≡ p .w2 → named o ≡ named p
-unfolding named
-named-same o p e f = ap₂ (λ (k w : ℕ). named (own k 0 0 w 0)) e f
+-- what a row's kind names is told without its place
+named-same : (o p : Own) → moved o 0 ≡ moved p 0 → named o ≡ named p
+named-same o p e = sym (moved-named o 0) ∙ ap named e ∙ moved-named p 0
 
 -- a row says one holder only
 one-holder : (s s′ : List ℕ) (o p : Own) (h h′ : Holder) → o ≡ p → shapeOf s o ≡ shape.Hold h → shapeOf s′ p ≡ shape.Hold h′ → h′ ≡ h
@@ -79,18 +78,13 @@ one-holder s s′ o p h h′ e q q′ =
 module _ (s s′ : List ℕ) where
   -- rows without bytes of the data
   bare-own : (w w′ : Row) → SameRow s w s′ w′ → Bare (ownOf w) → ownOf w ≡ ownOf w′
-  bare-own w w′ e b = λ i. own (e .kind i) (e .w0 b i) (e .w1 i) (e .w2 i) (e .w3 i)
+  bare-own w w′ e b =
+      let q : hasBytes (named (ownOf w′)) ≡ false = ap hasBytes (sym (named-same (ownOf w) (ownOf w′) (e .own))) ∙ b in
+      sym (moved-bare (ownOf w) 0 b) ∙ e .own ∙ moved-bare (ownOf w′) 0 q
 
   -- a row with no child
   one-says : (w w′ : Row) → SameRow s w s′ w′ → one (moved (ownOf w) 0) (payload s (ownOf w)) ≡ one (moved (ownOf w′) 0) (payload s′ (ownOf w′))
-  one-says w w′ e = of (hasBytes (named (ownOf w))) refl ∙ ap (λ (b : Bool). saysBy b) (ap hasBytes (named-same (ownOf w) (ownOf w′) (e .kind) (e .w2)))
-    where
-      saysBy : Bool → Said
-      saysBy b = one (own (w′ .kind) (cond b 0 (w′ .w0)) (w′ .w1) (w′ .w2) (w′ .w3)) (cond b (take (w′ .w1) (drop (w′ .w0) s′)) [])
-
-      of : (b : Bool) → hasBytes (named (ownOf w)) ≡ b → one (own (w .kind) (cond b 0 (w .w0)) (w .w1) (w .w2) (w .w3)) (cond b (take (w .w1) (drop (w .w0) s)) []) ≡ saysBy b
-      of true q = λ i. one (own (e .kind i) 0 (e .w1 i) (e .w2 i) (e .w3 i)) (e .payload q i)
-      of false q = λ i. one (own (e .kind i) (e .w0 q i) (e .w1 i) (e .w2 i) (e .w3 i)) []
+  one-says w w′ e = ap₂ one (e .own) (e .bytes)
 
   module _ (table table′ : List ℕ) where
     abbrev Same : ℕ → ℕ → Type 0
@@ -105,7 +99,7 @@ module _ (s s′ : List ℕ) where
       same-sort : (d k d′ k′ : ℕ) → Fine s d k t → Fine s′ d′ k′ u → SameRow s (rowAt table row) s′ (rowAt table′ row) → sort t ≡ sort u
       same-sort d k d′ k′ f f′ e =
           let o = top-same e in
-          sym (fine-sort s d k R t f) ∙ ap (λ (K : Kind). sortOf (shapeFor K)) (named-same (ownAt t R) (ownAt u R′) (o .kind) (o .w2)) ∙ fine-sort s′ d′ k′ R′ u f′
+          sym (fine-sort s d k R t f) ∙ ap (λ (K : Kind). sortOf (shapeFor K)) (named-same (ownAt t R) (ownAt u R′) (o .own)) ∙ fine-sort s′ d′ k′ R′ u f′
 
     abbrev Says : Tree → Tree → Type 0
     Says t u = (row : ℕ) (R R′ rest rest′ : List ℕ) → drop (wordsPerRow * row) table ≡ layout t row R ++ rest → drop (wordsPerRow * row) table′ ≡ layout u row R′ ++ rest′

@@ -13,7 +13,7 @@ use Rattle.writer.specs.declared.written.Written.the-variants.{Done, BadTable, 
 use Rattle.writer.specs.Written.{documentOf, written}
 use Rattle.demands.specs.declared.back.Back.{Back}
 use Rattle.demands.specs.declared.back.Back.the-variants.{Unwritten, Read}
-use Rattle.demands.specs.Alike.{Alike, SameRows}
+use Rattle.demands.specs.Alike.{SameRows}
 
 -- by what writing answers: the document is read into the table `back`, or there is none
 abbrev pub readBack : ℕ → Written → List ℕ → List ℕ → Back
@@ -39,7 +39,8 @@ tableBack depth table n s room back = backAfter depth (written depth table n s r
 pub record Again (depth : ℕ) (table : List ℕ) (n : ℕ) (s : List ℕ) (r : Back) (after : List ℕ) : Type 0 where
   pub accepted : r ≡ Read (Accepted n)
   pub rows : SameRows table s after (documentOf depth table n s) n
-  pub alike : Alike depth table n s after n (documentOf depth table n s)
+  -- they obey the row rules too
+  pub right : rulesHold depth after n (documentOf depth table n s) ≡ true
 
 unfoldable pub ReadsBack : ℕ → List ℕ → ℕ → List ℕ → ℕ → List ℕ → Back → List ℕ → Type 0
 ReadsBack depth table n s room back r after =

@@ -10,8 +10,8 @@ use lib.Dec.{eqb}
 use borrow.Author.Tests.{le-leb, ne-eqb, eqb-false}
 use Rattle.wide.specs.Family.{form}
 use Rattle.wide.specs.Members.{keyLength, referenceNumber, declarationCount, foreignLength}
-use Rattle.rows.specs.Table.{Own, limit}
-use Rattle.rows.specs.Kinds.{kindKey, own, holderOwn, referenceOwn, declarationOwn, foreignOwn, damagedOwn}
+use Rattle.rows.specs.Table.{Own, withPlace, limit}
+use Rattle.rows.specs.Kinds.{kindKey, holderOwn, referenceOwn, declarationOwn, foreignOwn, damagedOwn}
 use Rattle.format.specs.declared.refusal.Refusal.{Refusal}
 use Rattle.format.specs.declared.refusal.Refusal.the-variants as why
 use Rattle.format.specs.declared.head.Holder.{Holder}
@@ -33,7 +33,7 @@ use Rattle.rules.specs.Shape.{named, fits, shapeFor, shapeIf, shapeOf, keyFits}
 use Rattle.rules.specs.Fine.{Spoilt, KeyFine, IfKey, Fine, Fines}
 use Rattle.rules.proofs.Says.{names, key-named, key-kind, key-spelt, refer-own, hold-own, declare-own, declare-some, foreign-own, damaged-own, damaged-inside}
 use Rattle.rules.proofs.Read.{force-next}
-use Rattle.encode.specs.Encode.{holderCount, headFor, headOf, hasBytes, encode, encodes, placed, placeds}
+use Rattle.encode.specs.Encode.{holderCount, headFor, headOf, hasBytes, movedIf, encode, encodes, placed, placeds}
 use Rattle.encode.proofs.Moved.{told, value-moved}
 use Rattle.encode.proofs.Fronts.{Stand, stand-first, stand-second, array-front, record-front, map-front, reference-front, declaration-front, foreign-front}
 use Rattle.encode.proofs.Leaves.{payload-few, payload-there, key-back}
@@ -147,9 +147,9 @@ module _ (s s′ : List ℕ) (d k at stop : ℕ) (short : length s′ ≤ limit)
       let i : o ≡ damagedOwn (o .w0) (o .w1) (refusalNumber (v .why)) = damaged-own s o e ∙ ap (damagedOwn (o .w0) (o .w1)) (v .verdict) in
       let K : named o ≡ Damaged = ap named i ∙ damaged-named (o .w0) (o .w1) (v .why) in
       subst (λ (K : Kind). Stand s′ at stop (headFor o 0 K ++ cond (hasBytes K) P [])
-      → value (suc d) s′ k at stop ≡ right (damaged (own (o .kind) (cond (hasBytes K) (at + length (headFor o 0 K)) (o .w0)) (o .w1) (o .w2) (o .w3))) (at + length (headFor o 0 K ++ cond (hasBytes K) P []))) (sym K)
+      → value (suc d) s′ k at stop ≡ right (damaged (movedIf (hasBytes K) o (at + length (headFor o 0 K)))) (at + length (headFor o 0 K ++ cond (hasBytes K) P []))) (sym K)
       (λ g. damaged-back (o .w0) (o .w1) (damaged-inside s o e) (v .why) (v .place) (v .reads) g
-      ∙ ap (λ (q : Own). right (damaged (own (q .kind) (at + length (form foreignLength (o .w1))) (q .w1) (q .w2) (q .w3))) (at + length (form foreignLength (o .w1) ++ P))) (sym i)) h
+      ∙ ap (λ (q : Own). right (damaged (withPlace q (at + length (form foreignLength (o .w1))))) (at + length (form foreignLength (o .w1) ++ P))) (sym i)) h
 
 -- ---- a key
 
@@ -161,7 +161,7 @@ key-again s s′ at stop short o f h =
     let m : o .kind ≡ kindKey = key-kind s o f in
     let z = spelling s (o .w0) (o .w1) (o .w2) (o .w3) (key-spelt s o f) in
     subst (λ (K : Kind). Stand s′ at stop (headFor o 0 K ++ cond (hasBytes K) P [])
-    → keyed at (keyAt s′ at stop) ≡ right (leaf (own (o .kind) (cond (hasBytes K) (at + length (headFor o 0 K)) (o .w0)) (o .w1) (o .w2) (o .w3))) (at + length (headFor o 0 K ++ cond (hasBytes K) P []))) (sym (key-named o m))
+    → keyed at (keyAt s′ at stop) ≡ right (leaf (movedIf (hasBytes K) o (at + length (headFor o 0 K)))) (at + length (headFor o 0 K ++ cond (hasBytes K) P []))) (sym (key-named o m))
     (λ g.
     let next : at + length (form keyLength (o .w1)) + o .w1 ≡ at + length (form keyLength (o .w1) ++ P) = omega (arith, length-append (form keyLength (o .w1)) P, z .long) in
     ap (keyed at) (key-back s′ at stop P (o .w1) (z .long) short (z .said) g)

@@ -9,7 +9,6 @@ use lib.ListN.{length, take, drop}
 use borrow.Author.Tests.{eq-eqb}
 use Rattle.lists.proofs.Tests.{and-first}
 use Rattle.rows.specs.Table.{Own, limit}
-use Rattle.rows.specs.Kinds.{own}
 use Rattle.format.specs.declared.head.Children.{Children}
 use Rattle.format.specs.declared.head.Children.the-variants.{Entries}
 use Rattle.format.specs.Head.{floatSizes}
@@ -27,6 +26,7 @@ use Rattle.encode.specs.Encode.{headOf, hasBytes, payload, moved, encode
 use Rattle.encode.specs.Said.{Said, one, over, under, none, more, said, saids}
 use Rattle.encode.proofs.Fronts.{Stand, stand-first, stand-second}
 use Rattle.encode.proofs.Leaves.{payload-there}
+use Rattle.encode.proofs.Places.{moved-again, moved-payload}
 use Rattle.encode.proofs.Back.{part-long}
 use Rattle.encode.proofs.Worded.{Worded}
 use Rattle.encode.proofs.Again.{told-of, again}
@@ -63,16 +63,16 @@ leaf-inside s o e b = fits-inside s o (named o) b (told-of s o shape.Leaf e (λ 
 -- its payload stands behind its head, and is the same
 one-like : (s s′ : List ℕ) (at stop : ℕ) (o : Own) → (hasBytes (named o) ≡ true → o .w0 + o .w1 ≤ length s) → Stand s′ at stop (headOf o 0 ++ payload s o)
     → one (moved (moved o (at + length (headOf o 0))) 0) (payload s′ (moved o (at + length (headOf o 0)))) ≡ one (moved o 0) (payload s o)
-unfolding named
-one-like s s′ at stop o f = of (hasBytes (named o)) f
+one-like s s′ at stop o f h = ap₂ one (moved-again o p 0) (moved-payload o p s′ ∙ of (hasBytes (named o)) f h)
   where
-    -- whether it has a payload is told by its kind and w2 alone
-    of : (b : Bool) → (b ≡ true → o .w0 + o .w1 ≤ length s) → Stand s′ at stop (headOf o 0 ++ cond b (take (o .w1) (drop (o .w0) s)) [])
-        → one (own (o .kind) (cond b 0 (cond b (at + length (headOf o 0)) (o .w0))) (o .w1) (o .w2) (o .w3)) (cond b (take (o .w1) (drop (cond b (at + length (headOf o 0)) (o .w0)) s′)) [])
-        ≡ one (own (o .kind) (cond b 0 (o .w0)) (o .w1) (o .w2) (o .w3)) (cond b (take (o .w1) (drop (o .w0) s)) [])
-    of true g h =
-        ap (one (own (o .kind) 0 (o .w1) (o .w2) (o .w3)))
-        (payload-there s′ at stop (headOf o 0) (take (o .w1) (drop (o .w0) s)) (o .w1) h (part-long s (o .w0) (o .w1) (g refl)))
+    p : ℕ
+    p = at + length (headOf o 0)
+
+    P : List ℕ
+    P = take (o .w1) (drop (o .w0) s)
+
+    of : (b : Bool) → (b ≡ true → o .w0 + o .w1 ≤ length s) → Stand s′ at stop (headOf o 0 ++ cond b P []) → cond b (take (o .w1) (drop p s′)) [] ≡ cond b P []
+    of true g h = payload-there s′ at stop (headOf o 0) P (o .w1) h (part-long s (o .w0) (o .w1) (g refl))
     of false g h = refl
 
 key-like : (s s′ : List ℕ) (at stop : ℕ) (t : Tree) → KeyFine s t → Stand s′ at stop (encode s t) → said s′ (placed s t at) ≡ said s t

@@ -39,7 +39,7 @@ use Rattle.rules.specs.declared.shape.Shape.the-variants as shape
 use Rattle.rules.specs.Shape.{blank, inside, oneOf, span, spelt, fits, shapeFor}
 use Rattle.rules.proofs.Says.{Names, blank-first, blank-second, blank-third, blank-fourth}
 use Rattle.rules.proofs.Judged.{span-within}
-use Rattle.encode.specs.Encode.{placeIn, floatMarker, headFor, hasBytes}
+use Rattle.encode.specs.Encode.{placeIn, floatMarker, headFor, hasBytes, movedIf}
 use Rattle.encode.proofs.Worded.{Fit}
 use Rattle.encode.proofs.Fronts.{Stand, no-alone}
 use Rattle.encode.proofs.Leaves.{constant-back, text-back, binary-back, float-back, char-back, small-back, signed-back, unsigned-back, body-there}
@@ -110,7 +110,7 @@ module _ (s s′ : List ℕ) (d k at stop : ℕ) (short : length s′ ≤ limit)
 
   -- what it reads back as
   abbrev pub T : Kind → Own
-  T K = own (o .kind) (cond (hasBytes K) (at + length (headFor o 0 K)) (o .w0)) (o .w1) (o .w2) (o .w3)
+  T K = movedIf (hasBytes K) o (at + length (headFor o 0 K))
 
   N : ℕ
   N = valueOf (words (o .w0) (o .w1) (o .w2) (o .w3))

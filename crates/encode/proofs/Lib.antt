@@ -1,5 +1,6 @@
 -- Laws that belong to no one function.
 pub mod Moved
+pub mod Places
 pub mod Fronts
 pub mod Leaves
 pub mod Back

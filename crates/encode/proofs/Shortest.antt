@@ -3,20 +3,19 @@ use mathlib.Core.Path.{_≡_, refl, sym, ap, ap₂, _∙_}
 use Prim.Native.Nat.{ℕ, _+_, _≤_}
 use native.Mathlib.Omega.{arith}
 use native.Mathlib.Nat.{add-zero}
-use mathlib.Core.Bool.{cond}
 use mathlib.Core.List.{List, _++_}
 use lib.ListN.{length, length-append}
 use Rattle.wide.proofs.Numbers.{Bytes}
 use Rattle.rows.specs.Table.{Own, limit}
-use Rattle.rows.specs.Kinds.{own}
 use Rattle.format.specs.Tree.{Tree, leaf, refer, hold, declare, foreign, damaged, Trees}
 use Rattle.format.specs.Tree as trees
 use Rattle.format.specs.Value.{right, document}
 use Rattle.rules.specs.declared.kind.Kind.{Kind}
 use Rattle.rules.specs.declared.kind.Kind.the-variants.{Constant, Small, Signed, Unsigned, Float, Text, Holds, Binary, Char, Reference, Declaration, Whole, Damaged, Key, Unknown}
 use Rattle.rules.specs.Shape.{named}
-use Rattle.encode.specs.Encode.{headFor, headOf, hasBytes, payload, moved, encode, encodes}
+use Rattle.encode.specs.Encode.{headFor, headOf, hasBytes, payload, movedIf, moved, encode, encodes}
 use Rattle.encode.specs.Said.{Said, one, over, under, Saids, none, more, said, saids}
+use Rattle.encode.proofs.Places.{moved-named}
 use Rattle.encode.proofs.Least.{document-least}
 
 -- how many bytes say it
@@ -31,7 +30,7 @@ unfoldable mutual
   widths (more t ts) = width t + widths ts
 
 -- what stands before a payload does not depend on its place
-head-free : (o : Own) (place : ℕ) (K : Kind) → headFor (own (o .kind) (cond (hasBytes K) place (o .w0)) (o .w1) (o .w2) (o .w3)) 0 K ≡ headFor o 0 K
+head-free : (o : Own) (place : ℕ) (K : Kind) → headFor (movedIf (hasBytes K) o place) 0 K ≡ headFor o 0 K
 unfolding headFor
 head-free o place Constant = refl
 head-free o place Small = refl
@@ -50,8 +49,7 @@ head-free o place Key = refl
 head-free o place Unknown = refl
 
 moved-head : (o : Own) (place : ℕ) → headOf (moved o place) 0 ≡ headOf o 0
-unfolding named
-moved-head o place = head-free o place (named o)
+moved-head o place = ap (headFor (moved o place) 0) (moved-named o place) ∙ head-free o place (named o)
 
 one-width : (s : List ℕ) (o : Own) → length (headOf (moved o 0) 0) + length (payload s o) ≡ length (headOf o 0) + length (payload s o)
 one-width s o = ap (λ (l : List ℕ). length l + length (payload s o)) (moved-head o 0)

@@ -10,7 +10,7 @@ use Rattle.wide.specs.Family.{Family, form}
 use Rattle.wide.specs.Members.{integerSigned, integerUnsigned, textLength, binaryLength, arrayCount, recordCount, mapCount, keyLength, referenceNumber, declarationCount, foreignLength}
 use Rattle.format.specs.declared.head.Holder.{Holder}
 use Rattle.format.specs.declared.head.Holder.the-variants.{Array, Record, Map}
-use Rattle.rows.specs.Table.{Own}
+use Rattle.rows.specs.Table.{Own, withPlace}
 use Rattle.format.specs.Tree.{Tree, leaf, refer, hold, declare, foreign, damaged, Trees, none, more}
 use Rattle.format.specs.Head.{floatSizes}
 use Rattle.rules.specs.declared.kind.Kind.{Kind}
@@ -76,9 +76,13 @@ hasBytes Unknown = false
 abbrev pub payload : List ℕ → Own → List ℕ
 payload s o = cond (hasBytes (named o)) (take (o .w1) (drop (o .w0) s)) []
 
--- the same row with its payload at `place`
+-- the same row with its payload, if it has one, at `place`
+abbrev pub movedIf : Bool → Own → ℕ → Own
+movedIf true o place = withPlace o place
+movedIf false o place = o
+
 abbrev pub moved : Own → ℕ → Own
-moved o place = record { kind = o .kind; w0 = cond (hasBytes (named o)) place (o .w0); w1 = o .w1; w2 = o .w2; w3 = o .w3 }
+moved o place = movedIf (hasBytes (named o)) o place
 
 -- "It writes each value in the fewest bytes its kind and size of float allow, keeping declarations and foreign headers."
 unfoldable mutual

@@ -3,7 +3,7 @@ use Prim.Native.Nat.{ℕ, _+_}
 use mathlib.Core.Bool.{Bool, true, false}
 use mathlib.Core.List.{List, [], _∷_, _++_}
 use lib.ListN.{length, getD, take}
-use Rattle.rows.specs.Table.{Own, rowOf, wordsOf}
+use Rattle.rows.specs.Table.{Own, rowOf, withEntry, wordsOf}
 use Rattle.format.specs.declared.head.Children.{Children}
 use Rattle.format.specs.declared.head.Children.the-variants.{Plain, Keyed, Entries}
 use Rattle.format.specs.Tree.{Tree, leaf, refer, hold, declare, foreign, damaged, Trees, none, more, size, sizes}
@@ -30,7 +30,7 @@ inBody registry = take (inForeign (length registry)) registry
 
 -- "14 reference: w0 number, w1 row of that entry": what a reference's row says where its entry stands at `entry`; in the tree, 0
 abbrev pub aimed : Own → ℕ → Own
-aimed o entry = record { kind = o .kind; w0 = o .w0; w1 = entry; w2 = o .w2; w3 = o .w3 }
+aimed o entry = withEntry o entry
 
 -- "Rows stand in document order, a holder before its children": the words of a tree whose own row is `row`, where `registry` has the rows of
 -- the entries in force

@@ -26,6 +26,14 @@ rowOf o end = record { kind = o .kind; end = end; w0 = o .w0; w1 = o .w1; w2 = o
 abbrev pub ownOf : Row → Own
 ownOf w = record { kind = w .kind; w0 = w .w0; w1 = w .w1; w2 = w .w2; w3 = w .w3 }
 
+-- the same with another w0: "w0 place in the data"
+abbrev pub withPlace : Own → ℕ → Own
+withPlace o place = record { kind = o .kind; w0 = place; w1 = o .w1; w2 = o .w2; w3 = o .w3 }
+
+-- with another w1: "w1 row of that entry"
+abbrev pub withEntry : Own → ℕ → Own
+withEntry o entry = record { kind = o .kind; w0 = o .w0; w1 = entry; w2 = o .w2; w3 = o .w3 }
+
 -- the numbers of a row, in that order
 unfoldable pub wordsOf : Row → List ℕ
 wordsOf r = r .kind ∷ r .end ∷ r .w0 ∷ r .w1 ∷ r .w2 ∷ r .w3 ∷ []

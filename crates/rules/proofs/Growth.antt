@@ -82,12 +82,12 @@ glue R R′ X D₂ a e b = a ∙ ap₂ (λ (r d : List ℕ). r ++ d) e b ∙ sym
 -- a row's words, by its end and what it says itself
 own-words : (w : Row) (e : ℕ) → w .end ≡ e → wordsOf w ≡ wordsOf (rowOf (ownOf w) e)
 unfolding wordsOf
-own-words w e h = ap (λ (x : ℕ). w .kind ∷ x ∷ w .w0 ∷ w .w1 ∷ w .w2 ∷ w .w3 ∷ []) h
+own-words w e h = ap (λ (x : ℕ). wordsOf (rowOf (ownOf w) x)) h
 
 -- a reference's, by its entry's row
 aimed-words : (w : Row) (e entry : ℕ) → w .end ≡ e → w .w1 ≡ entry → wordsOf w ≡ wordsOf (rowOf (aimed (ownOf w) entry) e)
 unfolding wordsOf
-aimed-words w e entry h k = ap₂ (λ (x y : ℕ). w .kind ∷ x ∷ w .w0 ∷ y ∷ w .w2 ∷ w .w3 ∷ []) h k
+aimed-words w e entry h k = ap₂ (λ (x y : ℕ). wordsOf (rowOf (aimed (ownOf w) y) x)) h k
 
 module _ (table : List ℕ) (n : ℕ) (s : List ℕ) (room : n ≤ lent table) where
   row-first : (row : ℕ) → row < n → drop (wordsPerRow * row) table ≡ wordsOf (rowAt table row) ++ drop (wordsPerRow * (row + 1)) table

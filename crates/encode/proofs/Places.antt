@@ -1,0 +1,38 @@
+-- A row with its payload at another place: it is of the same kind, and all but the place stays. Assumes nothing.
+use mathlib.Core.Path.{_≡_, refl, ap, _∙_}
+use Prim.Native.Nat.{ℕ}
+use mathlib.Core.Bool.{Bool, true, false, cond}
+use mathlib.Core.List.{List, []}
+use lib.ListN.{take, drop}
+use Rattle.rows.specs.Table.{Own}
+use Rattle.rules.specs.declared.kind.Kind.{Kind}
+use Rattle.rules.specs.Shape.{named}
+use Rattle.encode.specs.Encode.{hasBytes, payload, movedIf, moved}
+
+module _ (o : Own) (place : ℕ) where
+  pub moved-named : named (moved o place) ≡ named o
+  unfolding named
+  moved-named = of (hasBytes (named o))
+    where
+      of : (b : Bool) → named (movedIf b o place) ≡ named o
+      of true = refl
+      of false = refl
+
+  pub moved-again : (again : ℕ) → moved (moved o place) again ≡ moved o again
+  moved-again again = ap (λ (K : Kind). movedIf (hasBytes K) (moved o place) again) moved-named ∙ of (hasBytes (named o))
+    where
+      of : (b : Bool) → movedIf b (movedIf b o place) again ≡ movedIf b o again
+      of true = refl
+      of false = refl
+
+  -- its payload is what stands there
+  pub moved-payload : (s : List ℕ) → payload s (moved o place) ≡ cond (hasBytes (named o)) (take (o .w1) (drop place s)) []
+  moved-payload s = ap (λ (K : Kind). cond (hasBytes K) (take (moved o place .w1) (drop (moved o place .w0) s)) []) moved-named ∙ of (hasBytes (named o))
+    where
+      of : (b : Bool) → cond b (take (movedIf b o place .w1) (drop (movedIf b o place .w0) s)) [] ≡ cond b (take (o .w1) (drop place s)) []
+      of true = refl
+      of false = refl
+
+  -- a row without bytes of the data has no place
+  pub moved-bare : hasBytes (named o) ≡ false → moved o place ≡ o
+  moved-bare b = rw b
