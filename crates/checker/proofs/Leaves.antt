@@ -1,6 +1,6 @@
 -- Rows that have no child, a law for each way out of the code. Assumes nothing.
 use mathlib.Core.Path.{_≡_, refl, sym, ap, ap₂, _∙_}
-use mathlib.Core.Bool.{Bool, true, false, cond, _&&_}
+use mathlib.Core.Bool.{Bool, true, false, cond}
 use mathlib.Core.List.{List}
 use Prim.Native.Nat.{ℕ, _+_, _≤_, _<_}
 use native.Mathlib.Omega.{arith}
@@ -22,10 +22,10 @@ use Rattle.rules.specs.declared.shape.Shape.{Shape}
 use Rattle.rules.specs.declared.shape.Shape.the-variants.{Leaf}
 use Rattle.format.specs.Tree.{leaf}
 use Rattle.rules.specs.Shape.{spelt, shapeOf, keyFits}
-use Rattle.rules.specs.Grow.{Growth, grew, bad, endsAt, growKey, pointing, judged}
+use Rattle.rules.specs.Grow.{Growth, grew, bad, endsAt, keyRow, growKey, pointing, judged}
 use Rattle.checker.specs.declared.standing.Standing.{Standing}
 use Rattle.checker.specs.declared.standing.Standing.the-variants.{Until, Broken}
-use Rattle.checker.specs.Contracts.{alone, standsAlone, standingOf, keyStanding, endingAt}
+use Rattle.checker.specs.Contracts.{alone, standsAlone, standingOf, endingAt}
 use Rattle.format.specs.Refusal.{numberOf as refusalNumber}
 
 -- ---- where a row ends
@@ -48,26 +48,22 @@ ends-grown end bad = refl
 -- ---- a key
 
 module _ (s : List ℕ) (row : ℕ) (w : Row) where
-  pub key-other : (w .kind ≡ kindKey → ⊥) → Broken ≡ keyStanding s row w
+  pub key-other : (w .kind ≡ kindKey → ⊥) → Broken ≡ standingOf (keyRow s row w)
   key-other h = rw (ne-eqb (w .kind) kindKey h)
 
-  module _ (is : w .kind ≡ kindKey) (b : Bool) (words : b ≡ spelt s (w .w0) (w .w1) (w .w2) (w .w3)) where
-    told : (v : Bool) → b ≡ v → eqb (w .kind) kindKey && spelt s (w .w0) (w .w1) (w .w2) (w .w3) ≡ v
+  module _ (is : w .kind ≡ kindKey) (b : Bool) (words : b ≡ spelt s (ownOf w)) where
+    told : (v : Bool) → b ≡ v → keyFits s (ownOf w) ≡ v
     told v e = rw (eq-eqb (w .kind) kindKey is) (sym words ∙ e)
 
-    pub key-yes : (r : Standing) → b ≡ true → r ≡ endingAt (w .end) (Until (row + 1)) → r ≡ keyStanding s row w
-    key-yes r e f = rw (told true e) f
+    pub key-yes : (r : Standing) → b ≡ true → r ≡ endingAt (w .end) (Until (row + 1)) → r ≡ standingOf (keyRow s row w)
+    key-yes r e f = rw (told true e) (f ∙ sym (ends-grown (w .end) (grew (leaf (ownOf w)) (row + 1))))
 
-    pub key-no : b ≡ false → Broken ≡ keyStanding s row w
+    pub key-no : b ≡ false → Broken ≡ standingOf (keyRow s row w)
     key-no e = rw (told false e)
 
-pub key-in : (table : List ℕ) (n : ℕ) (s : List ℕ) (row : ℕ) (w : Row) (r : Standing) → row < n → w ≡ rowAt table row → r ≡ keyStanding s row w → r ≡ standingOf (growKey table n s row)
+pub key-in : (table : List ℕ) (n : ℕ) (s : List ℕ) (row : ℕ) (w : Row) (r : Standing) → row < n → w ≡ rowAt table row → r ≡ standingOf (keyRow s row w) → r ≡ standingOf (growKey table n s row)
 unfolding growKey
-key-in table n s row w r h q e = rw (lt-ltb row n h, ← q) (e ∙ go (keyFits s (ownOf w)))
-  where
-    go : (b : Bool) → endingAt (w .end) (cond b (Until (row + 1)) Broken) ≡ standingOf (endsAt (w .end) (cond b (grew (leaf (ownOf w)) (row + 1)) bad))
-    go true = sym (ends-grown (w .end) (grew (leaf (ownOf w)) (row + 1)))
-    go false = refl
+key-in table n s row w r h q e = rw (lt-ltb row n h, ← q) e
 
 pub key-out : (table : List ℕ) (n : ℕ) (s : List ℕ) (row : ℕ) → n ≤ row → Broken ≡ standingOf (growKey table n s row)
 unfolding growKey

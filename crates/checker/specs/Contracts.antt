@@ -4,7 +4,6 @@ use Prim.Native.Nat.{ℕ, _+_, _≤_, _<_}
 use mathlib.Core.Bool.{Bool, true, false, cond, _&&_}
 use mathlib.Core.List.{List}
 use lib.Dec.{ltb, eqb}
-use Rattle.rows.specs.declared.row.Row.{Row}
 use Rattle.rows.specs.Table.{ownOf, rowAt, lent, limit}
 use Rattle.registry.specs.Registry.{walk, Below, Based}
 use Rattle.format.specs.declared.head.Children.{Children}
@@ -12,7 +11,7 @@ use Rattle.format.specs.Value.{inForce}
 use Rattle.format.specs.Layout.{isEntry}
 use Rattle.rules.specs.declared.shape.Shape.{Shape}
 use Rattle.rules.specs.declared.shape.Shape.the-variants.{Bad, Leaf, Refer, Hold, Declare, Whole, Damaged}
-use Rattle.rules.specs.Shape.{shapeOf, keyFits}
+use Rattle.rules.specs.Shape.{shapeOf}
 use Rattle.rules.specs.Grow.{Growth, grew, bad, Growths, grewAll, badAll}
 use Rattle.checker.specs.declared.standing.Standing.{Standing}
 use Rattle.checker.specs.declared.standing.Standing.the-variants.{Until, Broken}
@@ -61,7 +60,3 @@ standingAll badAll = Broken
 abbrev pub endingAt : ℕ → Standing → Standing
 endingAt end (Until next) = cond (eqb next end) (Until next) Broken
 endingAt end Broken = Broken
-
--- how a record's key stands
-abbrev pub keyStanding : List ℕ → ℕ → Row → Standing
-keyStanding s row w = endingAt (w .end) (cond (keyFits s (ownOf w)) (Until (row + 1)) Broken)

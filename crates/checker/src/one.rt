@@ -5,8 +5,8 @@ ghost use lib.ListN.{length};
 ghost use Rattle.rows.specs.Table.{ownOf, lent, limit};
 ghost use Rattle.registry.specs.Registry.{chain, Below, firstIn, Based};
 ghost use Rattle.format.specs.Value.{inForeign, value, whole, wrong};
-ghost use Rattle.rules.specs.Grow.{growKey, pointing, judged};
-ghost use Rattle.checker.specs.Contracts.{alone, standsAlone, standingOf, keyStanding, endingAt};
+ghost use Rattle.rules.specs.Grow.{keyRow, growKey, pointing, judged};
+ghost use Rattle.checker.specs.Contracts.{alone, standsAlone, standingOf, endingAt};
 use crate::standing::Standing;
 use format::Refusal;
 use measure::Measured;
@@ -31,12 +31,12 @@ pub fn ends_at(end: u32, g: Standing) -> Standing
 // A record's key, by its words.
 fn key_row(s: &[u8], row: usize, w: Row) -> Standing
     requires { ⌜ row < limit ⌝ }
-    ensures { λ r. ⌜ r ≡ keyStanding (now (s .entry)) row w ⌝ }
+    ensures { λ r. ⌜ r ≡ standingOf (keyRow (now (s .entry)) row w) ⌝ }
 {
     if w.kind != Row::KEY {
         return Standing::Broken;
     }
-    if rules::spelt(s, w.w0, w.w1, w.w2, w.w3) {
+    if rules::spelt(s, w) {
         return ends_at(w.end, Standing::Until { next: row + 1 });
     }
     Standing::Broken

@@ -32,12 +32,13 @@ use Rattle.rules.specs.declared.shape.Shape.the-variants as shape
 use Rattle.rules.specs.Shape.{named, fits, shapeFor, shapeIf, shapeOf, keyFits}
 use Rattle.rules.specs.Fine.{Spoilt, KeyFine, IfKey, Fine, Fines}
 use Rattle.rules.proofs.Says.{names, key-named, key-kind, key-spelt, refer-own, hold-own, declare-own, declare-some, foreign-own, damaged-own, damaged-inside}
+use Rattle.rules.proofs.Judged.{spelt-span}
 use Rattle.rules.proofs.Read.{force-next}
 use Rattle.encode.specs.Encode.{holderCount, headFor, headOf, hasBytes, movedIf, encode, encodes, placed, placeds}
 use Rattle.encode.proofs.Moved.{told, value-moved}
 use Rattle.encode.proofs.Fronts.{Stand, stand-first, stand-second, array-front, record-front, map-front, reference-front, declaration-front, foreign-front}
 use Rattle.encode.proofs.Leaves.{payload-few, payload-there, key-back}
-use Rattle.encode.proofs.Back.{spelling, part-long, own-same, leaf-back}
+use Rattle.encode.proofs.Back.{spelling, span-placed, part-long, leaf-back}
 use Rattle.encode.proofs.Worded.{Worded, Wordeds}
 use Rattle.format.specs.Refusal.{numberOf as refusalNumber}
 
@@ -159,13 +160,13 @@ unfolding encode placed headFor
 key-again s s′ at stop short o f h =
     let P : List ℕ = take (o .w1) (drop (o .w0) s) in
     let m : o .kind ≡ kindKey = key-kind s o f in
-    let z = spelling s (o .w0) (o .w1) (o .w2) (o .w3) (key-spelt s o f) in
+    let z = spelling s o (key-spelt s o f) in
     subst (λ (K : Kind). Stand s′ at stop (headFor o 0 K ++ cond (hasBytes K) P [])
     → keyed at (keyAt s′ at stop) ≡ right (leaf (movedIf (hasBytes K) o (at + length (headFor o 0 K)))) (at + length (headFor o 0 K ++ cond (hasBytes K) P []))) (sym (key-named o m))
     (λ g.
     let next : at + length (form keyLength (o .w1)) + o .w1 ≡ at + length (form keyLength (o .w1) ++ P) = omega (arith, length-append (form keyLength (o .w1)) P, z .long) in
     ap (keyed at) (key-back s′ at stop P (o .w1) (z .long) short (z .said) g)
-    ∙ ap₂ (λ (q : Own) (j : ℕ). right (leaf q) j) (own-same (sym m) refl refl (sym (z .no2)) (sym (z .no3))) next) h
+    ∙ ap₂ (λ (q : Own) (j : ℕ). right (leaf q) j) (span-placed s o kindKey _ m (spelt-span s o (key-spelt s o f))) next) h
 
 -- ---- trees
 

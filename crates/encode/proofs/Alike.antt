@@ -7,7 +7,7 @@ use mathlib.Core.Bool.{Bool, true, false, cond}
 use mathlib.Core.List.{List, [], _++_, append-nil}
 use lib.ListN.{length, take, drop}
 use borrow.Author.Tests.{eq-eqb}
-use Rattle.lists.proofs.Tests.{and-first}
+use Rattle.lists.proofs.Tests.{and-first, and-second}
 use Rattle.rows.specs.Table.{Own, limit}
 use Rattle.format.specs.declared.head.Children.{Children}
 use Rattle.format.specs.declared.head.Children.the-variants.{Entries}
@@ -18,9 +18,9 @@ use Rattle.format.specs.Value.{right, childrenOf, inForeign, whole, document, i
 use Rattle.rules.specs.declared.kind.Kind.{Kind}
 use Rattle.rules.specs.declared.kind.Kind.the-variants.{Constant, Small, Signed, Unsigned, Float, Text, Holds, Binary, Char, Reference, Declaration, Whole, Damaged, Key, Unknown}
 use Rattle.rules.specs.declared.shape.Shape.the-variants as shape
-use Rattle.rules.specs.Shape.{named, oneOf, span, spelt, fits, shapeOf}
+use Rattle.rules.specs.Shape.{named, blank, inside, oneOf, span, fits, shapeOf}
 use Rattle.rules.specs.Fine.{KeyFine, IfKey, Fine, Fines}
-use Rattle.rules.proofs.Judged.{span-within}
+use Rattle.rules.proofs.Judged.{inside-within, span-within}
 use Rattle.rules.proofs.Says.{spelt-within, key-inside, damaged-inside}
 use Rattle.encode.specs.Encode.{headOf, hasBytes, payload, moved, encode, encodes, placed, placeds}
 use Rattle.encode.specs.Said.{Said, one, over, under, none, more, said, saids}
@@ -43,16 +43,16 @@ fits-inside s o Constant b f = absurd (no-true b)
 fits-inside s o Small b f = absurd (no-true b)
 fits-inside s o Signed b f = absurd (no-true b)
 fits-inside s o Unsigned b f = absurd (no-true b)
-fits-inside s o Float b f = span-within s (o .w0) (o .w1) (o .w2) (o .w3) (and-first (span s (o .w0) (o .w1) (o .w2) (o .w3)) (oneOf floatSizes (o .w1)) f)
-fits-inside s o Text b f = spelt-within s (o .w0) (o .w1) (o .w2) (o .w3) f
+fits-inside s o Float b f = span-within s o (and-first (span s o) (oneOf floatSizes (o .w1)) f)
+fits-inside s o Text b f = spelt-within s o f
 fits-inside s o (Holds h) b f = absurd (no-true b)
-fits-inside s o Binary b f = span-within s (o .w0) (o .w1) (o .w2) (o .w3) f
+fits-inside s o Binary b f = span-within s o f
 fits-inside s o Char b f = absurd (no-true b)
 fits-inside s o Reference b f = absurd (no-true b)
 fits-inside s o Declaration b f = absurd (no-true b)
 fits-inside s o Whole b f = absurd (no-true b)
-fits-inside s o Damaged b f = span-within s (o .w0) (o .w1) 0 (o .w3) f
-fits-inside s o Key b f = spelt-within s (o .w0) (o .w1) (o .w2) (o .w3) f
+fits-inside s o Damaged b f = inside-within s o (and-second (blank 0 0 0 (o .w3)) (inside s (o .w0) (o .w1)) f)
+fits-inside s o Key b f = absurd (no-true f)
 fits-inside s o Unknown b f = absurd (no-true f)
 
 pub leaf-inside : (s : List ℕ) (o : Own) → shapeOf s o ≡ shape.Leaf → hasBytes (named o) ≡ true → o .w0 + o .w1 ≤ length s

@@ -24,8 +24,8 @@ use Rattle.wide.proofs.Numbers.{length-bytesOf}
 use Rattle.text.specs.declared.answer.Text.{Text}
 use Rattle.text.specs.declared.answer.Text.the-variants.{WellFormed, IllFormed}
 use Rattle.text.specs.Check.{textOf, wellFormed}
-use Rattle.rows.specs.Table.{Own, limit}
-use Rattle.rows.specs.Kinds.{kindSmall, kindSigned, kindUnsigned, kindFloat, kindText, kindBinary, own}
+use Rattle.rows.specs.Table.{Own, withPlace, limit}
+use Rattle.rows.specs.Kinds.{kindSmall, kindSigned, kindUnsigned, kindFloat, kindText, kindBinary, kindChar, spanOwn}
 use Rattle.format.specs.declared.head.Content.{Content}
 use Rattle.format.specs.declared.head.Content.the-variants as holds
 use Rattle.format.specs.declared.head.Head.the-variants as stand
@@ -36,9 +36,9 @@ use Rattle.format.proofs.Steps as clauses
 use Rattle.rules.specs.declared.kind.Kind.{Kind}
 use Rattle.rules.specs.declared.kind.Kind.the-variants.{Constant, Small, Signed, Unsigned, Float, Text as Spelt, Holds, Binary, Char, Reference, Declaration, Whole, Damaged, Key, Unknown}
 use Rattle.rules.specs.declared.shape.Shape.the-variants as shape
-use Rattle.rules.specs.Shape.{blank, inside, oneOf, span, spelt, fits, shapeFor}
-use Rattle.rules.proofs.Says.{Names, blank-first, blank-second, blank-third, blank-fourth}
-use Rattle.rules.proofs.Judged.{span-within}
+use Rattle.rules.specs.Shape.{blank, oneOf, span, spelt, fits, shapeFor}
+use Rattle.rules.proofs.Says.{Names, count-own, constant-own, span-own, spelt-within}
+use Rattle.rules.proofs.Judged.{span-within, spelt-span}
 use Rattle.encode.specs.Encode.{placeIn, floatMarker, headFor, hasBytes, movedIf}
 use Rattle.encode.proofs.Worded.{Fit}
 use Rattle.encode.proofs.Fronts.{Stand, no-alone}
@@ -71,38 +71,27 @@ not-false : (b : Bool) → not b ≡ true → b ≡ false
 not-false true e = sym e
 not-false false e = refl
 
-pub span-zeros : (s : List ℕ) (w0 w1 w2 w3 : ℕ) → span s w0 w1 w2 w3 ≡ true → (w2 ≡ 0) × (w3 ≡ 0)
-unfolding span
-span-zeros s w0 w1 w2 w3 e =
-    let b : blank 0 0 w2 w3 ≡ true = and-first (blank 0 0 w2 w3) (inside s w0 w1) e in
-    (blank-third 0 0 w2 w3 b, blank-fourth 0 0 w2 w3 b)
+-- what a text or a key spells
+pub record Spelling (s : List ℕ) (o : Own) : Type 0 where
+  pub long : length (take (o .w1) (drop (o .w0) s)) ≡ o .w1
+  pub said : textOf (take (o .w1) (drop (o .w0) s)) ≡ WellFormed
 
--- a text's or a key's words
-pub record Spelling (s : List ℕ) (w0 w1 w2 w3 : ℕ) : Type 0 where
-  pub no2 : w2 ≡ 0
-  pub no3 : w3 ≡ 0
-  pub long : length (take w1 (drop w0 s)) ≡ w1
-  pub said : textOf (take w1 (drop w0 s)) ≡ WellFormed
-
-pub spelling : (s : List ℕ) (w0 w1 w2 w3 : ℕ) → spelt s w0 w1 w2 w3 ≡ true → Spelling s w0 w1 w2 w3
+pub spelling : (s : List ℕ) (o : Own) → spelt s o ≡ true → Spelling s o
 unfolding spelt
-spelling s w0 w1 w2 w3 e =
-    let b : span s w0 w1 w2 w3 ≡ true = and-first (span s w0 w1 w2 w3) (wellFormed (textOf (take w1 (drop w0 s)))) e in
-    let z = span-zeros s w0 w1 w2 w3 b in
+spelling s o e =
     record {
-      no2 = z .0;
-      no3 = z .1;
-      long = part-long s w0 w1 (span-within s w0 w1 w2 w3 b);
-      said = well (textOf (take w1 (drop w0 s))) (and-second (span s w0 w1 w2 w3) (wellFormed (textOf (take w1 (drop w0 s)))) e);
+      long = part-long s (o .w0) (o .w1) (spelt-within s o e);
+      said = well (textOf (take (o .w1) (drop (o .w0) s))) (and-second (span s o) (wellFormed (textOf (take (o .w1) (drop (o .w0) s)))) e);
     }
+
+-- a place and a size, with another place
+pub span-placed : (s : List ℕ) (o : Own) (kind place : ℕ) → o .kind ≡ kind → span s o ≡ true → spanOwn kind place (o .w1) ≡ withPlace o place
+span-placed s o kind place m e = ap (λ (p : Own). withPlace p place) (sym (span-own s o kind m e))
 
 -- the float sizes and their markers
 float-marker : (n : ℕ) → oneOf floatSizes n ≡ true → (3 ≤ floatMarker n) × (floatMarker n < 8) × (floatSize (floatMarker n) ≡ n)
 unfolding floatMarker
 float-marker n e = by-size (λ m. (3 ≤ 3 + placeIn floatSizes m) × (3 + placeIn floatSizes m < 8) × (floatSize (3 + placeIn floatSizes m) ≡ m)) n e (lit≤ tt, lit≤ tt, refl) (lit≤ tt, lit≤ tt, refl) (lit≤ tt, lit≤ tt, refl) (lit≤ tt, lit≤ tt, refl) (lit≤ tt, lit≤ tt, refl)
-
-pub own-same : {a b c e a′ b′ c′ e′ m m′ : ℕ} → m ≡ m′ → a ≡ a′ → b ≡ b′ → c ≡ c′ → e ≡ e′ → own m a b c e ≡ own m′ a′ b′ c′ e′
-own-same p q r u v = λ i. own (p i) (q i) (r i) (u i) (v i)
 
 module _ (s s′ : List ℕ) (d k at stop : ℕ) (short : length s′ ≤ limit) (o : Own) (w : Fit o) where
   abbrev pub B : Kind → List ℕ
@@ -139,7 +128,7 @@ module _ (s s′ : List ℕ) (d k at stop : ℕ) (short : length s′ ≤ limit)
   unfolding leafOwn
   constant-leaf m f h =
       by-head (holds.Constant (o .kind)) (at + 1) (at + 1) o (constant-back s′ at stop (o .kind) (m .0) (m .1) h)
-      (own-same refl (sym (blank-first (o .w0) (o .w1) (o .w2) (o .w3) f)) (sym (blank-second (o .w0) (o .w1) (o .w2) (o .w3) f)) (sym (blank-third (o .w0) (o .w1) (o .w2) (o .w3) f)) (sym (blank-fourth (o .w0) (o .w1) (o .w2) (o .w3) f))) refl
+      (sym (constant-own s o (o .kind) refl f)) refl
 
   small-leaf : (o .kind) ≡ kindSmall → hasNumber (integerSigned .direct) N ≡ true → Stand s′ at stop (form integerSigned N) → value (suc d) s′ k at stop ≡ right (leaf o) (at + length (form integerSigned N))
   unfolding leafOwn
@@ -180,28 +169,26 @@ module _ (s s′ : List ℕ) (d k at stop : ℕ) (short : length s′ ≤ limit)
   leaf-back Signed m f e h = signed-leaf m (not-false _ f) (subst (Stand s′ at stop) (append-nil (form integerSigned N)) h) ∙ ap (λ (x : ℕ). right (leaf o) (at + x)) (sym (long-nil (form integerSigned N)))
   leaf-back Unsigned m f e h = unsigned-leaf m (not-false _ f) (subst (Stand s′ at stop) (append-nil (form integerUnsigned N)) h) ∙ ap (λ (x : ℕ). right (leaf o) (at + x)) (sym (long-nil (form integerUnsigned N)))
   leaf-back Float m f e h =
-      let b : span s (o .w0) (o .w1) (o .w2) (o .w3) ≡ true = and-first (span s (o .w0) (o .w1) (o .w2) (o .w3)) (oneOf floatSizes (o .w1)) f in
-      let z = span-zeros s (o .w0) (o .w1) (o .w2) (o .w3) b in
-      let l = part-long s (o .w0) (o .w1) (span-within s (o .w0) (o .w1) (o .w2) (o .w3) b) in
-      let q = float-marker (o .w1) (and-second (span s (o .w0) (o .w1) (o .w2) (o .w3)) (oneOf floatSizes (o .w1)) f) in
+      let b : span s o ≡ true = and-first (span s o) (oneOf floatSizes (o .w1)) f in
+      let l = part-long s (o .w0) (o .w1) (span-within s o b) in
+      let q = float-marker (o .w1) (and-second (span s o) (oneOf floatSizes (o .w1)) f) in
       by-head (holds.Span kindFloat (at + 1) (o .w1)) (at + 1 + (o .w1)) _ _ (float-back s′ at stop (take (o .w1) (drop (o .w0) s)) (o .w1) l short (floatMarker (o .w1)) (q .0) (q .1) (q .2) h)
-      (own-same (sym m) refl refl (sym (z .0)) (sym (z .1))) (omega (arith, l))
+      (span-placed s o kindFloat _ m b) (omega (arith, l))
   leaf-back Spelt m f e h =
-      let z = spelling s (o .w0) (o .w1) (o .w2) (o .w3) f in
+      let z = spelling s o f in
       by-head (holds.Span kindText (at + length (form textLength (o .w1))) (o .w1)) (at + length (form textLength (o .w1)) + (o .w1)) _ _ (text-back s′ at stop (take (o .w1) (drop (o .w0) s)) (o .w1) (z .long) short (z .said) h)
-      (own-same (sym m) refl refl (sym (z .no2)) (sym (z .no3))) (omega (arith, z .long, length-append (form textLength (o .w1)) (take (o .w1) (drop (o .w0) s))))
+      (span-placed s o kindText _ m (spelt-span s o f)) (omega (arith, z .long, length-append (form textLength (o .w1)) (take (o .w1) (drop (o .w0) s))))
   leaf-back (Holds x) m f e h = cc
   leaf-back Binary m f e h =
-      let z = span-zeros s (o .w0) (o .w1) (o .w2) (o .w3) f in
-      let l = part-long s (o .w0) (o .w1) (span-within s (o .w0) (o .w1) (o .w2) (o .w3) f) in
+      let l = part-long s (o .w0) (o .w1) (span-within s o f) in
       by-head (holds.Span kindBinary (at + length (form binaryLength (o .w1))) (o .w1)) (at + length (form binaryLength (o .w1)) + (o .w1)) _ _ (binary-back s′ at stop (take (o .w1) (drop (o .w0) s)) (o .w1) l short h)
-      (own-same (sym m) refl refl (sym (z .0)) (sym (z .1))) (omega (arith, l, length-append (form binaryLength (o .w1)) (take (o .w1) (drop (o .w0) s))))
+      (span-placed s o kindBinary _ m f) (omega (arith, l, length-append (form binaryLength (o .w1)) (take (o .w1) (drop (o .w0) s))))
   leaf-back Char m f e h =
       let b : blank 0 (o .w1) (o .w2) (o .w3) ≡ true = and-first (blank 0 (o .w1) (o .w2) (o .w3)) (codepoint (o .w0)) f in
       let c : codepoint (o .w0) ≡ true = and-second (blank 0 (o .w1) (o .w2) (o .w3)) (codepoint (o .w0)) f in
       let u : (o .w0) ≤ 0x10FFFF = leb-true (o .w0) 0x10FFFF (and-first (leb (o .w0) 0x10FFFF) (not (leb 0xD800 (o .w0) && leb (o .w0) 0xDFFF)) c) in
       by-head (holds.Char (o .w0)) (at + 4) _ _ (char-back s′ at stop (o .w0) c u (subst (Stand s′ at stop) (append-nil (0xc0 ∷ bytesOf 3 (o .w0))) h))
-      (own-same (sym m) refl (sym (blank-second 0 (o .w1) (o .w2) (o .w3) b)) (sym (blank-third 0 (o .w1) (o .w2) (o .w3) b)) (sym (blank-fourth 0 (o .w1) (o .w2) (o .w3) b)))
+      (sym (count-own s o kindChar 0 m b))
       (ap (λ (x : ℕ). at + x) (sym (long-nil (0xc0 ∷ bytesOf 3 (o .w0)) ∙ ap suc (length-bytesOf 3 (o .w0)))))
   leaf-back Reference m f e h = cc
   leaf-back Declaration m f e h = cc

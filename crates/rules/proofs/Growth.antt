@@ -121,7 +121,7 @@ module _ (table : List ℕ) (n : ℕ) (s : List ℕ) (room : n ≤ lent table) w
   key-sound registry row =
       let w : Row = rowAt table row in
       let T : Bool = keyFits s (ownOf w) in
-      cond-case (Sound (KeyFine s) table n registry row) (ltb row n) (keyRow table n s row w) bad
+      cond-case (Sound (KeyFine s) table n registry row) (ltb row n) (keyRow s row w) bad
       (λ h. ends-sound (KeyFine s) registry row (cond T (grew (leaf (ownOf w)) (row + 1)) bad)
       (cond-case (Inner (KeyFine s) table n registry row) T (grew (leaf (ownOf w)) (row + 1)) bad
       (λ q. leaf-inner (KeyFine s) registry row (ltb-true row n h) (record { own = ownOf w; is = refl; fits = q }))

@@ -15,7 +15,7 @@ use Rattle.text.specs.Check.{textOf, wellFormed}
 use Rattle.rows.specs.Table.{Own}
 use Rattle.format.specs.declared.head.Holder.{Holder}
 use Rattle.format.specs.Head.{codepoint}
-use Rattle.lists.proofs.Tests.{and-yes, and-second}
+use Rattle.lists.proofs.Tests.{and-yes, and-first, and-second}
 use Rattle.rules.specs.declared.kind.Kind.{Kind}
 use Rattle.rules.specs.declared.kind.Kind.the-variants.{Holds, Char}
 use Rattle.rules.specs.declared.shape.Shape.{Shape}
@@ -28,24 +28,28 @@ pub inside-is : (s : List ℕ) (place size a b : ℕ) → a ≡ place → b ≡ 
 unfolding inside
 inside-is s place size a b e f = ap₂ (λ (x y : ℕ). leb (x + y) (length s)) e f
 
-module _ (s : List ℕ) (w0 w1 w2 w3 : ℕ) where
-  pub inside-within : inside s w0 w1 ≡ true → w0 + w1 ≤ length s
+module _ (s : List ℕ) (o : Own) where
+  pub inside-within : inside s (o .w0) (o .w1) ≡ true → o .w0 + o .w1 ≤ length s
   unfolding inside
-  inside-within e = leb-true (w0 + w1) (length s) e
+  inside-within e = leb-true (o .w0 + o .w1) (length s) e
 
-  pub span-within : span s w0 w1 w2 w3 ≡ true → w0 + w1 ≤ length s
+  pub span-within : span s o ≡ true → o .w0 + o .w1 ≤ length s
   unfolding span
-  span-within e = inside-within (and-second (blank 0 0 w2 w3) (inside s w0 w1) e)
+  span-within e = inside-within (and-second (blank 0 0 (o .w2) (o .w3)) (inside s (o .w0) (o .w1)) e)
 
-  module _ (b : Bool) (is : b ≡ span s w0 w1 w2 w3) (holds : b ≡ true) (from size : ℕ) (f : from ≡ w0) (g : size ≡ w1) where
+  pub spelt-span : spelt s o ≡ true → span s o ≡ true
+  unfolding spelt
+  spelt-span e = and-first (span s o) (wellFormed (textOf (take (o .w1) (drop (o .w0) s)))) e
+
+  module _ (b : Bool) (is : b ≡ span s o) (holds : b ≡ true) (from size : ℕ) (f : from ≡ o .w0) (g : size ≡ o .w1) where
     pub part-within : from + size ≤ length s
     part-within = let h = span-within (sym is ∙ holds) in omega arith
 
-    pub spelt-as : (r : Bool) → r ≡ wellFormed (textOf (take (from + size - from) (drop from s))) → r ≡ spelt s w0 w1 w2 w3
+    pub spelt-as : (r : Bool) → r ≡ wellFormed (textOf (take (from + size - from) (drop from s))) → r ≡ spelt s o
     unfolding spelt
     spelt-as r e =
-        let n : from + size - from ≡ w1 = omega arith in
-        and-yes b (span s w0 w1 w2 w3) _ r is holds (e ∙ ap₂ (λ (x y : ℕ). wellFormed (textOf (take x (drop y s)))) n f)
+        let n : from + size - from ≡ o .w1 = omega arith in
+        and-yes b (span s o) _ r is holds (e ∙ ap₂ (λ (x y : ℕ). wellFormed (textOf (take x (drop y s)))) n f)
 
 -- ---- an integer
 

@@ -19,7 +19,7 @@ use Rattle.wide.proofs.Sound.{sound-integers}
 use Rattle.text.specs.declared.answer.Text.{Text}
 use Rattle.text.specs.declared.answer.Text.the-variants.{WellFormed}
 use Rattle.text.specs.Check.{textOf}
-use Rattle.rows.specs.Kinds.{kindSmall, kindSigned, kindUnsigned, kindKey, constantOwn, spanOwn, holderOwn, charOwn, foreignOwn, damagedOwn}
+use Rattle.rows.specs.Kinds.{kindSmall, kindSigned, kindUnsigned, kindFloat, kindText, kindBinary, kindKey, constantOwn, spanOwn, holderOwn, charOwn, foreignOwn, damagedOwn}
 use Rattle.format.specs.declared.refusal.Refusal.{Refusal}
 use Rattle.format.specs.declared.refusal.Refusal.the-variants as why
 use Rattle.format.specs.declared.head.Spelling.{Spelling}
@@ -87,13 +87,13 @@ module _ (s : List ℕ) where
   shape-unsigned n e = rw e
 
   -- a place and a size in the data
-  span-yes : (place size : ℕ) → place + size ≤ length s → span s place size 0 0 ≡ true
+  span-yes : (kind place size : ℕ) → place + size ≤ length s → span s (spanOwn kind place size) ≡ true
   unfolding span inside blank
-  span-yes place size h = le-leb (place + size) (length s) h
+  span-yes kind place size h = le-leb (place + size) (length s) h
 
-  spelt-yes : (place size : ℕ) → place + size ≤ length s → textOf (take size (drop place s)) ≡ WellFormed → spelt s place size 0 0 ≡ true
+  spelt-yes : (kind place size : ℕ) → place + size ≤ length s → textOf (take size (drop place s)) ≡ WellFormed → spelt s (spanOwn kind place size) ≡ true
   unfolding spelt
-  spelt-yes place size h e = rw (span-yes place size h, e)
+  spelt-yes kind place size h e = rw (span-yes kind place size h, e)
 
   float-size : (b : ℕ) → 0x03 ≤ b → b < 0x08 → oneOf floatSizes (floatSize b) ≡ true
   unfolding oneOf
@@ -109,9 +109,9 @@ module _ (s : List ℕ) where
 
   payload-shape : (kind place size : ℕ) → place + size ≤ length s → Payload s kind place size → shapeOf s (spanOwn kind place size) ≡ Leaf
   unfolding shapeOf named fits
-  payload-shape kind place size h (floating b l u k z) = rw k (rw (span-yes place size h, z, float-size b l u))
-  payload-shape kind place size h (written k w) = rw k (rw (spelt-yes place size h w))
-  payload-shape kind place size h (binary k) = rw k (rw (span-yes place size h))
+  payload-shape kind place size h (floating b l u k z) = rw k (rw (span-yes kindFloat place size h, z, float-size b l u))
+  payload-shape kind place size h (written k w) = rw k (rw (spelt-yes kindText place size h w))
+  payload-shape kind place size h (binary k) = rw k (rw (span-yes kindBinary place size h))
 
   char-shape : (c : ℕ) → codepoint c ≡ true → shapeOf s (charOwn c) ≡ Leaf
   unfolding shapeOf named fits blank
@@ -119,16 +119,16 @@ module _ (s : List ℕ) where
 
   -- a damaged body
   damaged-shape : (place n : ℕ) (e : Refusal) → place + n ≤ length s → shapeOf s (damagedOwn place n (refusalNumber e)) ≡ Damaged
-  unfolding shapeOf named fits
-  damaged-shape place n why.Short h = rw (span-yes place n h)
-  damaged-shape place n why.Marker h = rw (span-yes place n h)
-  damaged-shape place n why.Huge h = rw (span-yes place n h)
-  damaged-shape place n why.Text h = rw (span-yes place n h)
-  damaged-shape place n why.Char h = rw (span-yes place n h)
-  damaged-shape place n why.NoEntry h = rw (span-yes place n h)
-  damaged-shape place n why.Empty h = rw (span-yes place n h)
-  damaged-shape place n why.Deep h = rw (span-yes place n h)
-  damaged-shape place n why.Extra h = rw (span-yes place n h)
+  unfolding shapeOf named fits blank inside
+  damaged-shape place n why.Short h = rw (le-leb (place + n) (length s) h)
+  damaged-shape place n why.Marker h = rw (le-leb (place + n) (length s) h)
+  damaged-shape place n why.Huge h = rw (le-leb (place + n) (length s) h)
+  damaged-shape place n why.Text h = rw (le-leb (place + n) (length s) h)
+  damaged-shape place n why.Char h = rw (le-leb (place + n) (length s) h)
+  damaged-shape place n why.NoEntry h = rw (le-leb (place + n) (length s) h)
+  damaged-shape place n why.Empty h = rw (le-leb (place + n) (length s) h)
+  damaged-shape place n why.Deep h = rw (le-leb (place + n) (length s) h)
+  damaged-shape place n why.Extra h = rw (le-leb (place + n) (length s) h)
 
   whole-shape : shapeOf s foreignOwn ≡ Whole
   unfolding shapeOf named fits blank
@@ -177,7 +177,7 @@ FinesAt s d c k i n (broke e place) = Unit {0}
 
 keyed-fine : (s : List ℕ) (at stop : ℕ) → stop ≤ length s → (x : Spelling) → Spelled s at stop x → FineAt (KeyFine s) (keyed at x)
 keyed-fine s at stop l (At place n) w =
-    record { own = spanOwn kindKey place n; is = refl; fits = spelt-yes s place n (omega (arith, w .within)) (w .spelt) }
+    record { own = spanOwn kindKey place n; is = refl; fits = spelt-yes s kindKey place n (omega (arith, w .within)) (w .spelt) }
 keyed-fine s at stop l (No e) w = tt
 
 pub force-next : (c : Children) (k i : ℕ) → after (isEntry c) (inForce c k i) ≡ inForce c k (i + 1)

@@ -4,8 +4,7 @@ use Prim.Native.Nat.{ℕ, _+_, _≤_, _<_}
 use native.Mathlib.Omega.{arith}
 use mathlib.Core.Bool.{Bool, true, false, _&&_}
 use mathlib.Core.List.{List}
-use lib.ListN.{length, take, drop}
-use Rattle.text.specs.Check.{textOf, wellFormed}
+use lib.ListN.{length}
 use Rattle.format.specs.Head.{floatSizes}
 use Rattle.format.specs.declared.head.Holder.{Holder}
 use Rattle.format.specs.Value.{kindOf}
@@ -14,14 +13,14 @@ use lib.Dec.{ltb, eqb}
 use borrow.Author.Tests.{eqb-true, ltb-true, lt-ltb}
 use Rattle.wide.proofs.Families.{cond-case}
 use Rattle.rows.specs.Table.{Own}
-use Rattle.rows.specs.Kinds.{kindFalse, kindTrue, kindNone, kindSmall, kindSigned, kindUnsigned, kindFloat, kindText, kindArray, kindRecord, kindMap, kindBinary, kindChar, kindReference, kindDeclaration, kindForeign, kindKey, holderOwn, referenceOwn, declarationOwn, foreignOwn, damagedOwn}
+use Rattle.rows.specs.Kinds.{kindFalse, kindTrue, kindNone, kindSmall, kindSigned, kindUnsigned, kindFloat, kindText, kindArray, kindRecord, kindMap, kindBinary, kindChar, kindReference, kindDeclaration, kindForeign, kindKey, constantOwn, spanOwn, holderOwn, referenceOwn, declarationOwn, foreignOwn, damagedOwn}
 use Rattle.rules.specs.declared.kind.Kind.{Kind}
 use Rattle.rules.specs.declared.kind.Kind.the-variants.{Constant, Small, Signed, Unsigned, Float, Text, Holds, Binary, Char, Reference, Declaration, Whole, Damaged, Key, Unknown}
 use Rattle.rules.specs.declared.shape.Shape.{Shape}
 use Rattle.rules.specs.declared.shape.Shape.the-variants as shape
 use Rattle.rules.specs.Shape.{named, blank, inside, oneOf, span, spelt, fits, shapeIf, shapeOf, keyFits}
 use Rattle.lists.proofs.Tests.{and-first, and-second}
-use Rattle.rules.proofs.Judged.{span-within}
+use Rattle.rules.proofs.Judged.{inside-within, span-within, spelt-span}
 
 -- ---- words that are 0
 
@@ -116,12 +115,23 @@ module _ (s : List ℕ) (o : Own) where
   B a = blank a (o .w1) (o .w2) (o .w3)
 
   -- only w0 may be other than 0
-  rest : (kind a : ℕ) → o .kind ≡ kind → B a ≡ true → o ≡ holderOwn kind (o .w0)
-  rest kind a m e =
+  pub count-own : (kind a : ℕ) → o .kind ≡ kind → B a ≡ true → o ≡ holderOwn kind (o .w0)
+  count-own kind a m e =
       own-is o (holderOwn kind (o .w0)) m refl (blank-second a (o .w1) (o .w2) (o .w3) e) (blank-third a (o .w1) (o .w2) (o .w3) e) (blank-fourth a (o .w1) (o .w2) (o .w3) e)
 
+  -- none may
+  pub constant-own : (kind : ℕ) → o .kind ≡ kind → B (o .w0) ≡ true → o ≡ constantOwn kind
+  constant-own kind m e = count-own kind (o .w0) m e ∙ ap (holderOwn kind) (blank-first (o .w0) (o .w1) (o .w2) (o .w3) e)
+
+  -- only a place and a size
+  pub span-own : (kind : ℕ) → o .kind ≡ kind → span s o ≡ true → o ≡ spanOwn kind (o .w0) (o .w1)
+  unfolding span
+  span-own kind m e =
+      let b : blank 0 0 (o .w2) (o .w3) ≡ true = and-first (blank 0 0 (o .w2) (o .w3)) (inside s (o .w0) (o .w1)) e in
+      own-is o (spanOwn kind (o .w0) (o .w1)) m refl refl (blank-third 0 0 (o .w2) (o .w3) b) (blank-fourth 0 0 (o .w2) (o .w3) b)
+
   by-kind : (k : Kind) → Names k (o .kind) → (b : Bool) → fits s o k ≡ b → Says s o (shapeIf b k)
-  unfolding fits span
+  unfolding fits
   by-kind k m false e = tt
   by-kind Constant m true e = tt
   by-kind Small m true e = tt
@@ -129,17 +139,16 @@ module _ (s : List ℕ) (o : Own) where
   by-kind Unsigned m true e = tt
   by-kind Float m true e = tt
   by-kind Text m true e = tt
-  by-kind (Holds h) m true e = rest (kindOf h) 0 m e
+  by-kind (Holds h) m true e = count-own (kindOf h) 0 m e
   by-kind Binary m true e = tt
   by-kind Char m true e = tt
   by-kind Reference m true e =
       own-is o (referenceOwn (o .w0) (o .w1)) m refl refl (blank-third 0 0 (o .w2) (o .w3) e) (blank-fourth 0 0 (o .w2) (o .w3) e)
-  by-kind Declaration m true e = (rest kindDeclaration 0 m (and-first (B 0) (ltb 0 (o .w0)) e), ltb-true 0 (o .w0) (and-second (B 0) (ltb 0 (o .w0)) e))
-  by-kind Whole m true e =
-      rest kindForeign (o .w0) m e ∙ ap (holderOwn kindForeign) (blank-first (o .w0) (o .w1) (o .w2) (o .w3) e)
+  by-kind Declaration m true e = (count-own kindDeclaration 0 m (and-first (B 0) (ltb 0 (o .w0)) e), ltb-true 0 (o .w0) (and-second (B 0) (ltb 0 (o .w0)) e))
+  by-kind Whole m true e = constant-own kindForeign m e
   by-kind Damaged m true e = (
     own-is o (damagedOwn (o .w0) (o .w1) (o .w2)) m refl refl refl (blank-fourth 0 0 0 (o .w3) (and-first (blank 0 0 0 (o .w3)) (inside s (o .w0) (o .w1)) e)),
-    span-within s (o .w0) (o .w1) 0 (o .w3) e,
+    inside-within s o (and-second (blank 0 0 0 (o .w3)) (inside s (o .w0) (o .w1)) e),
   )
   by-kind Key m true e = tt
   by-kind Unknown m true e = tt
@@ -199,59 +208,54 @@ HasInside l o shape.Declare = ⊥
 HasInside l o shape.Whole = ⊥
 HasInside l o shape.Damaged = ⊥
 
-pub spelt-within : (s : List ℕ) (w0 w1 w2 w3 : ℕ) → spelt s w0 w1 w2 w3 ≡ true → w0 + w1 ≤ length s
-unfolding spelt
-spelt-within s w0 w1 w2 w3 e = span-within s w0 w1 w2 w3 (and-first (span s w0 w1 w2 w3) (wellFormed (textOf (take w1 (drop w0 s)))) e)
+pub spelt-within : (s : List ℕ) (o : Own) → spelt s o ≡ true → o .w0 + o .w1 ≤ length s
+spelt-within s o e = span-within s o (spelt-span s o e)
 
 module _ (s : List ℕ) (o : Own) (f : keyFits s o ≡ true) where
   pub key-kind : o .kind ≡ kindKey
-  key-kind = eqb-true (o .kind) kindKey (and-first (eqb (o .kind) kindKey) (spelt s (o .w0) (o .w1) (o .w2) (o .w3)) f)
+  key-kind = eqb-true (o .kind) kindKey (and-first (eqb (o .kind) kindKey) (spelt s o) f)
 
-  pub key-spelt : spelt s (o .w0) (o .w1) (o .w2) (o .w3) ≡ true
-  key-spelt = and-second (eqb (o .kind) kindKey) (spelt s (o .w0) (o .w1) (o .w2) (o .w3)) f
+  pub key-spelt : spelt s o ≡ true
+  key-spelt = and-second (eqb (o .kind) kindKey) (spelt s o) f
 
   pub key-inside : o .w0 + o .w1 ≤ length s
-  key-inside = spelt-within s (o .w0) (o .w1) (o .w2) (o .w3) key-spelt
+  key-inside = spelt-within s o key-spelt
 
 module _ (s : List ℕ) (o : Own) (x : Shape) (is : shapeOf s o ≡ x) where
   abbrev P : Shape → Type 0
   P = HasInside (length s) o
 
   abbrev S : Bool
-  S = span s (o .w0) (o .w1) (o .w2) (o .w3)
+  S = span s o
 
   pub float-inside : o .kind ≡ kindFloat → P x
-  unfolding shapeOf named fits
+  unfolding shapeOf named fits span
   float-inside e = subst P (rw e at is) (of (S && oneOf floatSizes (o .w1)) refl)
     where
       of : (b : Bool) → S && oneOf floatSizes (o .w1) ≡ b → P (shapeIf b Float)
-      of true q = span-within s (o .w0) (o .w1) (o .w2) (o .w3) (and-first S (oneOf floatSizes (o .w1)) q)
+      of true q = span-within s o (and-first S (oneOf floatSizes (o .w1)) q)
       of false q = tt
 
   pub text-inside : o .kind ≡ kindText → P x
-  unfolding shapeOf named fits
-  text-inside e = subst P (rw e at is) (of (spelt s (o .w0) (o .w1) (o .w2) (o .w3)) refl)
+  unfolding shapeOf named fits spelt span
+  text-inside e = subst P (rw e at is) (of (spelt s o) refl)
     where
-      of : (b : Bool) → spelt s (o .w0) (o .w1) (o .w2) (o .w3) ≡ b → P (shapeIf b Text)
-      of true q = spelt-within s (o .w0) (o .w1) (o .w2) (o .w3) q
+      of : (b : Bool) → spelt s o ≡ b → P (shapeIf b Text)
+      of true q = spelt-within s o q
       of false q = tt
 
   pub binary-inside : o .kind ≡ kindBinary → P x
-  unfolding shapeOf named fits
+  unfolding shapeOf named fits span
   binary-inside e = subst P (rw e at is) (of S refl)
     where
       of : (b : Bool) → S ≡ b → P (shapeIf b Binary)
-      of true q = span-within s (o .w0) (o .w1) (o .w2) (o .w3) q
+      of true q = span-within s o q
       of false q = tt
 
   -- a key stands at no value position
   pub key-bad : o .kind ≡ kindKey → x ≡ shape.Bad
   unfolding shapeOf named fits
-  key-bad e = sym (rw e at is) ∙ of (spelt s (o .w0) (o .w1) (o .w2) (o .w3))
-    where
-      of : (b : Bool) → shapeIf b Key ≡ shape.Bad
-      of true = refl
-      of false = refl
+  key-bad e = sym (rw e at is)
 
 -- ---- kinds that only one shape has
 

@@ -73,15 +73,16 @@ abbrev pub judged : ℕ → Own → Reading → Growth
 judged row o (right t next) = bad
 judged row o (wrong e place) = cond (eqb (o .w2) (refusalNumber e)) (grew (damaged o) (row + 1)) bad
 
+-- the row w at `row`, as a key over the data s
+abbrev pub keyRow : List ℕ → ℕ → Row → Growth
+keyRow s row w = endsAt (w .end) (cond (keyFits s (ownOf w)) (grew (leaf (ownOf w)) (row + 1)) bad)
+
 -- ---- the first n rows of a table over the data s
 
 module _ (table : List ℕ) (n : ℕ) (s : List ℕ) where
-  abbrev pub keyRow : ℕ → Row → Growth
-  keyRow row w = endsAt (w .end) (cond (keyFits s (ownOf w)) (grew (leaf (ownOf w)) (row + 1)) bad)
-
   -- "keys stand only as record keys"
   unfoldable pub growKey : ℕ → Growth
-  growKey row = cond (ltb row n) (keyRow row (rowAt table row)) bad
+  growKey row = cond (ltb row n) (keyRow s row (rowAt table row)) bad
 
   unfoldable pub item : Bool → Grower → List ℕ → ℕ → Growth
   item true G registry row = growKey row

@@ -57,11 +57,11 @@ oneOf [] n = false
 oneOf (m ∷ ms) n = eqb n m || oneOf ms n
 
 -- "7 float, 8 text, 12 binary, 17 key: w0 place in the data, w1 size"
-unfoldable pub span : List ℕ → ℕ → ℕ → ℕ → ℕ → Bool
-span s w0 w1 w2 w3 = blank 0 0 w2 w3 && inside s w0 w1
+unfoldable pub span : List ℕ → Own → Bool
+span s o = blank 0 0 (o .w2) (o .w3) && inside s (o .w0) (o .w1)
 
-unfoldable pub spelt : List ℕ → ℕ → ℕ → ℕ → ℕ → Bool
-spelt s w0 w1 w2 w3 = span s w0 w1 w2 w3 && wellFormed (textOf (take w1 (drop w0 s)))
+unfoldable pub spelt : List ℕ → Own → Bool
+spelt s o = span s o && wellFormed (textOf (take (o .w1) (drop (o .w0) s)))
 
 -- whether what a row says is right for its kind, over the data s
 unfoldable pub fits : List ℕ → Own → Kind → Bool
@@ -69,16 +69,16 @@ fits s o Constant = blank (o .w0) (o .w1) (o .w2) (o .w3)
 fits s o Small = isSmall true o
 fits s o Signed = not (isSmall true o)
 fits s o Unsigned = not (isSmall false o)
-fits s o Float = span s (o .w0) (o .w1) (o .w2) (o .w3) && oneOf floatSizes (o .w1)
-fits s o Spelt = spelt s (o .w0) (o .w1) (o .w2) (o .w3)
+fits s o Float = span s o && oneOf floatSizes (o .w1)
+fits s o Spelt = spelt s o
 fits s o (Holds holder) = blank 0 (o .w1) (o .w2) (o .w3)
-fits s o Binary = span s (o .w0) (o .w1) (o .w2) (o .w3)
+fits s o Binary = span s o
 fits s o Char = blank 0 (o .w1) (o .w2) (o .w3) && codepoint (o .w0)
 fits s o Reference = blank 0 0 (o .w2) (o .w3)
 fits s o Declaration = blank 0 (o .w1) (o .w2) (o .w3) && ltb 0 (o .w0)  -- "w0 at least 1"
 fits s o Whole = blank (o .w0) (o .w1) (o .w2) (o .w3)  -- "right: all 0, one child"
-fits s o Damaged = span s (o .w0) (o .w1) 0 (o .w3)  -- "Damaged: w0 place, w1 size, w2 verdict (2..10), no child"
-fits s o Key = spelt s (o .w0) (o .w1) (o .w2) (o .w3)
+fits s o Damaged = blank 0 0 0 (o .w3) && inside s (o .w0) (o .w1)  -- "Damaged: w0 place, w1 size, w2 verdict (2..10), no child"
+fits s o Key = false  -- at a value position; a record's key is judged by keyFits
 fits s o Unknown = false
 
 -- the shape of a row of each kind
@@ -109,4 +109,4 @@ shapeOf s o = shapeIf (fits s o (named o)) (named o)
 
 -- whether it is a record's key
 abbrev pub keyFits : List ℕ → Own → Bool
-keyFits s o = eqb (o .kind) kindKey && spelt s (o .w0) (o .w1) (o .w2) (o .w3)
+keyFits s o = eqb (o .kind) kindKey && spelt s o

@@ -5,6 +5,7 @@ ghost use Rattle.rules.specs.Shape.{named, fits, shapeFor};
 use crate::kind::Kind;
 use crate::shape::Shape;
 use crate::words::blank;
+use crate::words::inside;
 use crate::words::is_float_size;
 use crate::words::span;
 use crate::words::spelt;
@@ -90,14 +91,14 @@ pub fn fits(s: &[u8], w: Row, kind: Kind) -> bool
         Kind::Signed => !wide::integer::is_small(wide_of(w), true),
         Kind::Unsigned => !wide::integer::is_small(wide_of(w), false),
         Kind::Float => {
-            if span(s, w.w0, w.w1, w.w2, w.w3) {
+            if span(s, w) {
                 return is_float_size(w.w1);
             }
             false
         }
-        Kind::Text => spelt(s, w.w0, w.w1, w.w2, w.w3),
+        Kind::Text => spelt(s, w),
         Kind::Holds { holder: _ } => blank(0, w.w1, w.w2, w.w3),
-        Kind::Binary => span(s, w.w0, w.w1, w.w2, w.w3),
+        Kind::Binary => span(s, w),
         Kind::Char => {
             if blank(0, w.w1, w.w2, w.w3) {
                 return heads::is_codepoint(rows::number(w.w0));
@@ -112,8 +113,13 @@ pub fn fits(s: &[u8], w: Row, kind: Kind) -> bool
             false
         }
         Kind::Whole => blank(w.w0, w.w1, w.w2, w.w3),
-        Kind::Damaged => span(s, w.w0, w.w1, 0, w.w3),
-        Kind::Key => spelt(s, w.w0, w.w1, w.w2, w.w3),
+        Kind::Damaged => {
+            if blank(0, 0, 0, w.w3) {
+                return inside(s, w.w0, w.w1);
+            }
+            false
+        }
+        Kind::Key => false,
         Kind::Unknown => false,
     }
 }

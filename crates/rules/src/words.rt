@@ -1,6 +1,7 @@
 // Whether the words of a row are right.
 ghost use mathlib.Core.Path.{_≡_};
 ghost use Rattle.wide.specs.Words.{words};
+ghost use Rattle.rows.specs.Table.{ownOf};
 ghost use Rattle.format.specs.Head.{floatSizes};
 ghost use Rattle.rules.specs.Shape.{blank, inside, oneOf, span, spelt};
 use rows::Row;
@@ -23,7 +24,7 @@ pub fn blank(a: u32, b: u32, c: u32, d: u32) -> bool
 }
 
 // The sum cannot wrap: both are below 2^32.
-fn inside(s: &[u8], place: u32, size: u32) -> bool
+pub fn inside(s: &[u8], place: u32, size: u32) -> bool
     ensures { λ r. ⌜ r ≡ inside (now (s .entry)) place size ⌝ }
 {
     rows::number(place) + rows::number(size) <= s.len()
@@ -51,22 +52,22 @@ pub fn is_float_size(n: u32) -> bool
 }
 
 // A place and a size in the data.
-pub fn span(s: &[u8], place: u32, size: u32, w2: u32, w3: u32) -> bool
-    ensures { λ r. ⌜ r ≡ span (now (s .entry)) place size w2 w3 ⌝ }
+pub fn span(s: &[u8], w: Row) -> bool
+    ensures { λ r. ⌜ r ≡ span (now (s .entry)) (ownOf w) ⌝ }
 {
-    if blank(0, 0, w2, w3) {
-        return inside(s, place, size);
+    if blank(0, 0, w.w2, w.w3) {
+        return inside(s, w.w0, w.w1);
     }
     false
 }
 
 // A text, or a key.
-pub fn spelt(s: &[u8], place: u32, size: u32, w2: u32, w3: u32) -> bool
-    ensures { λ r. ⌜ r ≡ spelt (now (s .entry)) place size w2 w3 ⌝ }
+pub fn spelt(s: &[u8], w: Row) -> bool
+    ensures { λ r. ⌜ r ≡ spelt (now (s .entry)) (ownOf w) ⌝ }
 {
-    if span(s, place, size, w2, w3) {
-        let from = rows::number(place);
-        return text::is_well_formed(&s[from..from + rows::number(size)]);
+    if span(s, w) {
+        let from = rows::number(w.w0);
+        return text::is_well_formed(&s[from..from + rows::number(w.w1)]);
     }
     false
 }
