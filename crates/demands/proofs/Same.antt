@@ -14,7 +14,6 @@ use Rattle.format.specs.Tree.{Tree, leaf, refer, hold, declare, foreign, damage
 use Rattle.format.specs.Value.{childCount, childrenOf, inForeign, isKey}
 use Rattle.format.specs.Layout.{layout, layouts, grown, entries, inBody, aimed}
 use Rattle.format.proofs.Layouts.{length-layout, length-layouts, size-pos, ownAt, topRow, top-at}
-use Rattle.rules.specs.declared.kind.Kind.{Kind}
 use Rattle.rules.specs.declared.shape.Shape.{Shape}
 use Rattle.rules.specs.declared.shape.Shape.the-variants as shape
 use Rattle.rules.specs.Shape.{named, shapeFor, shapeOf}
@@ -32,48 +31,52 @@ use Rattle.demands.specs.Alike.{SameRow, SameRows}
 
 -- ---- a right tree's own row tells which tree it is
 
-abbrev sortOf : Shape → ℕ
-sortOf shape.Bad = 6
-sortOf shape.Leaf = 0
-sortOf shape.Refer = 1
-sortOf (shape.Hold h) = 2
-sortOf shape.Declare = 3
-sortOf shape.Whole = 4
-sortOf shape.Damaged = 5
-
-abbrev sort : Tree → ℕ
-sort (leaf o) = 0
-sort (refer o) = 1
-sort (hold o ts) = 2
-sort (declare o es t) = 3
-sort (foreign o t) = 4
-sort (damaged o) = 5
+-- the shape of its row
+unfoldable shapeBy : (s : List ℕ) (d k : ℕ) (t : Tree) → Fine s d k t → Shape
+unfolding Fine
+shapeBy s d k (leaf o) f = shape.Leaf
+shapeBy s d k (refer o) f = shape.Refer
+shapeBy s d k (hold o ts) f = shape.Hold (f .1 .0)
+shapeBy s d k (declare o es t) f = shape.Declare
+shapeBy s d k (foreign o t) f = shape.Whole
+shapeBy s d k (damaged o) f = shape.Damaged
 
 shape-is : (s : List ℕ) (o : Own) (x : Shape) → shapeOf s o ≡ x → (x ≡ shape.Bad → ⊥) → shapeFor (named o) ≡ x
 shape-is s o x e f = told-of s o x e f .is
 
-fine-sort : (s : List ℕ) (d k : ℕ) (R : List ℕ) (t : Tree) → Fine s d k t → sortOf (shapeFor (named (ownAt t R))) ≡ sort t
-unfolding Fine
-fine-sort s d k R (leaf o) f = ap sortOf (shape-is s o shape.Leaf (f .1) (λ z. let y : _≡_ {A = ℕ} 0 1 = cc in omega arith))
-fine-sort s d k R (refer o) f =
+fine-shape : (s : List ℕ) (d k : ℕ) (R : List ℕ) (t : Tree) (f : Fine s d k t) → shapeFor (named (ownAt t R)) ≡ shapeBy s d k t f
+unfolding Fine shapeBy
+fine-shape s d k R (leaf o) f = shape-is s o shape.Leaf (f .1) (λ z. let y : _≡_ {A = ℕ} 0 1 = cc in omega arith)
+fine-shape s d k R (refer o) f =
     let e : ℕ = getD R (o .w0) 0 in
-    ap sortOf (shape-is s (aimed o e) shape.Refer (aimed-shape s o e (f .1)) (λ z. let y : _≡_ {A = ℕ} 0 1 = cc in omega arith))
-fine-sort s d k R (hold o ts) f = ap sortOf (shape-is s o (shape.Hold (f .1 .0)) (f .1 .1) (λ z. let y : _≡_ {A = ℕ} 0 1 = cc in omega arith))
-fine-sort s d k R (declare o es t) f = ap sortOf (shape-is s o shape.Declare (f .1) (λ z. let y : _≡_ {A = ℕ} 0 1 = cc in omega arith))
-fine-sort s d k R (foreign o t) f = ap sortOf (shape-is s o shape.Whole (f .1) (λ z. let y : _≡_ {A = ℕ} 0 1 = cc in omega arith))
-fine-sort s d k R (damaged o) f = ap sortOf (shape-is s o shape.Damaged (f .1) (λ z. let y : _≡_ {A = ℕ} 0 1 = cc in omega arith))
+    shape-is s (aimed o e) shape.Refer (aimed-shape s o e (f .1)) (λ z. let y : _≡_ {A = ℕ} 0 1 = cc in omega arith)
+fine-shape s d k R (hold o ts) f = shape-is s o (shape.Hold (f .1 .0)) (f .1 .1) (λ z. let y : _≡_ {A = ℕ} 0 1 = cc in omega arith)
+fine-shape s d k R (declare o es t) f = shape-is s o shape.Declare (f .1) (λ z. let y : _≡_ {A = ℕ} 0 1 = cc in omega arith)
+fine-shape s d k R (foreign o t) f = shape-is s o shape.Whole (f .1) (λ z. let y : _≡_ {A = ℕ} 0 1 = cc in omega arith)
+fine-shape s d k R (damaged o) f = shape-is s o shape.Damaged (f .1) (λ z. let y : _≡_ {A = ℕ} 0 1 = cc in omega arith)
+
+-- P of every tree whose row has that shape
+abbrev On : Shape → (Tree → Type 0) → Type 0
+On shape.Bad P = Unit {0}
+On shape.Leaf P = (o : Own) → P (leaf o)
+On shape.Refer P = (o : Own) → P (refer o)
+On (shape.Hold h) P = (o : Own) (ts : Trees) → P (hold o ts)
+On shape.Declare P = (o : Own) (es : Trees) (t : Tree) → P (declare o es t)
+On shape.Whole P = (o : Own) (t : Tree) → P (foreign o t)
+On shape.Damaged P = (o : Own) → P (damaged o)
+
+by-shape : (s : List ℕ) (d k : ℕ) (P : Tree → Type 0) (t : Tree) (f : Fine s d k t) → On (shapeBy s d k t f) P → P t
+unfolding shapeBy
+by-shape s d k P (leaf o) f g = g o
+by-shape s d k P (refer o) f g = g o
+by-shape s d k P (hold o ts) f g = g o ts
+by-shape s d k P (declare o es t) f g = g o es t
+by-shape s d k P (foreign o t) f g = g o t
+by-shape s d k P (damaged o) f g = g o
 
 -- what a row's kind names is told without its place
 named-same : (o p : Own) → moved o 0 ≡ moved p 0 → named o ≡ named p
 named-same o p e = sym (moved-named o 0) ∙ ap named e ∙ moved-named p 0
-
--- a row says one holder only
-one-holder : (s s′ : List ℕ) (o p : Own) (h h′ : Holder) → o ≡ p → shapeOf s o ≡ shape.Hold h → shapeOf s′ p ≡ shape.Hold h′ → h′ ≡ h
-one-holder s s′ o p h h′ e q q′ =
-    let a : shapeFor (named o) ≡ shape.Hold h = shape-is s o (shape.Hold h) q (λ z. let y : _≡_ {A = ℕ} 0 1 = cc in omega arith) in
-    let b : shapeFor (named p) ≡ shape.Hold h′ = shape-is s′ p (shape.Hold h′) q′ (λ z. let y : _≡_ {A = ℕ} 0 1 = cc in omega arith) in
-    let c : shape.Hold h′ ≡ shape.Hold h = sym b ∙ ap (λ (x : Own). shapeFor (named x)) (sym e) ∙ a in
-    cc
 
 module _ (s s′ : List ℕ) where
   -- rows without bytes of the data
@@ -96,10 +99,8 @@ module _ (s s′ : List ℕ) where
       top-same e =
           subst (λ (v : Row). SameRow s v s′ (topRow u row R′)) (top-at table t row R rest h) (subst (SameRow s (rowAt table row) s′) (top-at table′ u row R′ rest′ h′) e)
 
-      same-sort : (d k d′ k′ : ℕ) → Fine s d k t → Fine s′ d′ k′ u → SameRow s (rowAt table row) s′ (rowAt table′ row) → sort t ≡ sort u
-      same-sort d k d′ k′ f f′ e =
-          let o = top-same e in
-          sym (fine-sort s d k R t f) ∙ ap (λ (K : Kind). sortOf (shapeFor K)) (named-same (ownAt t R) (ownAt u R′) (o .own)) ∙ fine-sort s′ d′ k′ R′ u f′
+      same-shape : (d k d′ k′ : ℕ) (f : Fine s d k t) (f′ : Fine s′ d′ k′ u) → SameRow s (topRow t row R) s′ (topRow u row R′) → shapeBy s d k t f ≡ shapeBy s′ d′ k′ u f′
+      same-shape d k d′ k′ f f′ w = sym (fine-shape s d k R t f) ∙ ap shapeFor (named-same (ownAt t R) (ownAt u R′) (w .own)) ∙ fine-shape s′ d′ k′ R′ u f′
 
     abbrev Says : Tree → Tree → Type 0
     Says t u = (row : ℕ) (R R′ rest rest′ : List ℕ) → drop (wordsPerRow * row) table ≡ layout t row R ++ rest → drop (wordsPerRow * row) table′ ≡ layout u row R′ ++ rest′
@@ -121,30 +122,47 @@ module _ (s s′ : List ℕ) where
     item-says true t u d k d′ k′ g f f′ = key-says t u f f′
     item-says false t u d k d′ k′ g f f′ = g f f′
 
-    mutual
-      unfolding layout size said Fine many
+    -- what u says, whose own row is the same
+    abbrev Beside : (t : Tree) (d k : ℕ) → Fine s d k t → (d′ k′ row : ℕ) → List ℕ → List ℕ → List ℕ → Tree → Type 0
+    Beside t d k f d′ k′ row R R′ rest′ u = (f′ : Fine s′ d′ k′ u) → drop (wordsPerRow * row) table′ ≡ layout u row R′ ++ rest′ → shapeBy s d k t f ≡ shapeBy s′ d′ k′ u f′
+        → SameRow s (topRow t row R) s′ (topRow u row R′) → (said s t ≡ said s′ u) × (size t ≡ size u)
 
-      -- their own rows are the same, and so are those behind
-      tree-says : (t u : Tree) (d k d′ k′ : ℕ) → Fine s d k t → Fine s′ d′ k′ u → (row : ℕ) (R R′ rest rest′ : List ℕ) → drop (wordsPerRow * row) table ≡ layout t row R ++ rest
-          → drop (wordsPerRow * row) table′ ≡ layout u row R′ ++ rest′ → sort t ≡ sort u → SameRow s (topRow t row R) s′ (topRow u row R′) → Same (row + 1) (row + size t)
-          → (said s t ≡ said s′ u) × (size t ≡ size u)
-      tree-says (leaf o) (leaf p) d k d′ k′ f f′ row R R′ rest rest′ h h′ q w e = (one-says (topRow (leaf o) row R) (topRow (leaf p) row R′) w, refl)
-      tree-says (refer o) (refer p) d k d′ k′ f f′ row R R′ rest rest′ h h′ q w e =
+    abbrev Besides : (t : Tree) (d k : ℕ) → Fine s d k t → ℕ → ℕ → Type 0
+    Besides t d k f d′ k′ = (row : ℕ) (R R′ rest rest′ : List ℕ) → drop (wordsPerRow * row) table ≡ layout t row R ++ rest → Same (row + 1) (row + size t)
+        → On (shapeBy s d k t f) (Beside t d k f d′ k′ row R R′ rest′)
+
+    tree-says : (t u : Tree) (d k d′ k′ : ℕ) (f : Fine s d k t) → Fine s′ d′ k′ u → Besides t d k f d′ k′ → Says t u
+    tree-says t u d k d′ k′ f f′ go row R R′ rest rest′ h h′ e =
+        let w = top-same t u row R R′ rest rest′ h h′ (here t row e) in
+        let q = same-shape t u row R R′ rest rest′ h h′ d k d′ k′ f f′ w in
+        let P : Tree → Type 0 = Beside t d k f d′ k′ row R R′ rest′ in
+        by-shape s′ d′ k′ P u f′ (subst (λ (x : Shape). On x P) q (go row R R′ rest rest′ h (λ i l g. e i (omega arith) g))) f′ h′ q w
+
+    mutual
+      unfolding layout size said Fine many shapeBy
+
+      -- by t's shape, where the rows behind are the same
+      tree-beside : (t : Tree) (d k : ℕ) (f : Fine s d k t) (d′ k′ : ℕ) → Besides t d k f d′ k′
+      tree-beside (leaf o) d k f d′ k′ row R R′ rest rest′ h e = λ p f′ h′ q w. (one-says (topRow (leaf o) row R) (topRow (leaf p) row R′) w, refl)
+      tree-beside (refer o) d k f d′ k′ row R R′ rest rest′ h e =
+          λ p f′ h′ q w.
           let m : ℕ = getD R (o .w0) 0 in
           let m′ : ℕ = getD R′ (p .w0) 0 in
           let x : aimed o m ≡ aimed p m′ = bare-own (topRow (refer o) row R) (topRow (refer p) row R′) w (refer-bare s o (f .1) m) in
           let z : o ≡ p = ap (aimed o) (f .2) ∙ ap (λ (y : Own). aimed y 0) x ∙ ap (aimed p) (sym (f′ .2)) in
           (ap (λ (y : Own). one y []) z, refl)
-      tree-says (hold o ts) (hold p us) d k d′ k′ f f′ row R R′ rest rest′ h h′ q w e =
+      tree-beside (hold o ts) d k f d′ k′ row R R′ rest rest′ h e =
+          λ p us f′ h′ q w.
           let g : Holder = f .1 .0 in
           let x : o ≡ p = bare-own (topRow (hold o ts) row R) (topRow (hold p us) row R′) w (hold-bare s o g (f .1 .1)) in
-          let y : f′ .1 .0 ≡ g = one-holder s s′ o p g (f′ .1 .0) x (f .1 .1) (f′ .1 .1) in
+          let y : f′ .1 .0 ≡ g = cc in
           let m : many ts ≡ many us = f .1 .2 ∙ ap₂ (λ (z : Own) (v : Holder). childCount v (z .w0)) x (sym y) ∙ sym (f′ .1 .2) in
           let a =
           trees-say ts us (d - 1) k (d′ - 1) k′ (childrenOf g) 0 (f .1 .3) (subst (λ (v : Holder). Fines s′ (d′ - 1) (childrenOf v) k′ 0 us) y (f′ .1 .3)) (row + 1) false R R′ rest rest′
           (rest-at table row R rest (hold o ts) h) (rest-at table′ row R′ rest′ (hold p us) h′) m (λ i l g. e i l (omega arith)) in
           (ap₂ over x (a .0), ap (λ (z : ℕ). 1 + z) (a .1))
-      tree-says (declare o es t) (declare p us u) d k d′ k′ f f′ row R R′ rest rest′ h h′ q w e =
+      tree-beside (declare o es t) d k f d′ k′ row R R′ rest rest′ h e =
+          λ p us u f′ h′ q w.
           let A : List ℕ = entries es (row + 1) [] in
           let A′ : List ℕ = entries us (row + 1) [] in
           let E : List ℕ = layouts es true (row + 1) [] in
@@ -160,53 +178,18 @@ module _ (s s′ : List ℕ) where
           let b : drop (wordsPerRow * c) table ≡ U ++ rest = behind table (row + 1) (sizes es) E (U ++ rest) (length-layouts es true (row + 1) []) v in
           let b′ : drop (wordsPerRow * c) table′ ≡ layout u c A′ ++ rest′ =
           subst (λ (m : ℕ). drop (wordsPerRow * (row + 1 + m)) table′ ≡ layout u (row + 1 + m) A′ ++ rest′) (sym (a .1)) (behind table′ (row + 1) (sizes us) E′ (U′ ++ rest′) (length-layouts us true (row + 1) []) v′) in
-          let r = e c (omega arith) (omega (arith, size-pos t)) in
-          let z =
-          tree-says t u (d - 1) (o .w0) (d′ - 1) (p .w0) (f .4) (f′ .4) c A A′ rest rest′ b b′ (same-sort t u c A A′ rest rest′ b b′ (d - 1) (o .w0) (d′ - 1) (p .w0) (f .4) (f′ .4) r)
-          (top-same t u c A A′ rest rest′ b b′ r) (λ i l g. e i (omega arith) (omega arith)) in
+          let z = tree-says t u (d - 1) (o .w0) (d′ - 1) (p .w0) (f .4) (f′ .4)
+          (λ row R R′ rest rest′ h e. tree-beside t (d - 1) (o .w0) (f .4) (d′ - 1) (p .w0) row R R′ rest rest′ h e) c A A′ rest rest′ b b′ (λ i l g. e i (omega arith) (omega arith)) in
           (ap (λ (y : Own). under y (saids s es) (said s t)) x ∙ ap₂ (under p) (a .0) (z .0), ap₂ (λ (i j : ℕ). 1 + (i + j)) (a .1) (z .1))
-      tree-says (foreign o t) (foreign p u) d k d′ k′ f f′ row R R′ rest rest′ h h′ q w e =
+      tree-beside (foreign o t) d k f d′ k′ row R R′ rest rest′ h e =
+          λ p u f′ h′ q w.
           let x : o ≡ p = bare-own (topRow (foreign o t) row R) (topRow (foreign p u) row R′) w (foreign-bare s o (f .1)) in
-          let B : List ℕ = inBody R in
-          let B′ : List ℕ = inBody R′ in
-          let b = rest-at table row R rest (foreign o t) h in
-          let b′ = rest-at table′ row R′ rest′ (foreign p u) h′ in
-          let r = e (row + 1) (omega arith) (omega (arith, size-pos t)) in
           let z =
-          tree-says t u (d - 1) (inForeign k) (d′ - 1) (inForeign k′) (f .2) (f′ .2) (row + 1) B B′ rest rest′ b b′
-          (same-sort t u (row + 1) B B′ rest rest′ b b′ (d - 1) (inForeign k) (d′ - 1) (inForeign k′) (f .2) (f′ .2) r) (top-same t u (row + 1) B B′ rest rest′ b b′ r) (λ i l g. e i (omega arith) (omega arith)) in
+          tree-says t u (d - 1) (inForeign k) (d′ - 1) (inForeign k′) (f .2) (f′ .2)
+          (λ row R R′ rest rest′ h e. tree-beside t (d - 1) (inForeign k) (f .2) (d′ - 1) (inForeign k′) row R R′ rest rest′ h e) (row + 1) (inBody R) (inBody R′) rest rest′
+          (rest-at table row R rest (foreign o t) h) (rest-at table′ row R′ rest′ (foreign p u) h′) (λ i l g. e i l (omega arith)) in
           (ap₂ (λ (y : Own) (v : Said). over y (says.more v says.none)) x (z .0), ap (λ (y : ℕ). 1 + y) (z .1))
-      tree-says (damaged o) (damaged p) d k d′ k′ f f′ row R R′ rest rest′ h h′ q w e = (one-says (topRow (damaged o) row R) (topRow (damaged p) row R′) w, refl)
-      tree-says (leaf o) (refer p) d k d′ k′ f f′ row R R′ rest rest′ h h′ q w e = absurd (omega (arith, q))
-      tree-says (leaf o) (hold p us) d k d′ k′ f f′ row R R′ rest rest′ h h′ q w e = absurd (omega (arith, q))
-      tree-says (leaf o) (declare p us u) d k d′ k′ f f′ row R R′ rest rest′ h h′ q w e = absurd (omega (arith, q))
-      tree-says (leaf o) (foreign p u) d k d′ k′ f f′ row R R′ rest rest′ h h′ q w e = absurd (omega (arith, q))
-      tree-says (leaf o) (damaged p) d k d′ k′ f f′ row R R′ rest rest′ h h′ q w e = absurd (omega (arith, q))
-      tree-says (refer o) (leaf p) d k d′ k′ f f′ row R R′ rest rest′ h h′ q w e = absurd (omega (arith, q))
-      tree-says (refer o) (hold p us) d k d′ k′ f f′ row R R′ rest rest′ h h′ q w e = absurd (omega (arith, q))
-      tree-says (refer o) (declare p us u) d k d′ k′ f f′ row R R′ rest rest′ h h′ q w e = absurd (omega (arith, q))
-      tree-says (refer o) (foreign p u) d k d′ k′ f f′ row R R′ rest rest′ h h′ q w e = absurd (omega (arith, q))
-      tree-says (refer o) (damaged p) d k d′ k′ f f′ row R R′ rest rest′ h h′ q w e = absurd (omega (arith, q))
-      tree-says (hold o ts) (leaf p) d k d′ k′ f f′ row R R′ rest rest′ h h′ q w e = absurd (omega (arith, q))
-      tree-says (hold o ts) (refer p) d k d′ k′ f f′ row R R′ rest rest′ h h′ q w e = absurd (omega (arith, q))
-      tree-says (hold o ts) (declare p us u) d k d′ k′ f f′ row R R′ rest rest′ h h′ q w e = absurd (omega (arith, q))
-      tree-says (hold o ts) (foreign p u) d k d′ k′ f f′ row R R′ rest rest′ h h′ q w e = absurd (omega (arith, q))
-      tree-says (hold o ts) (damaged p) d k d′ k′ f f′ row R R′ rest rest′ h h′ q w e = absurd (omega (arith, q))
-      tree-says (declare o es t) (leaf p) d k d′ k′ f f′ row R R′ rest rest′ h h′ q w e = absurd (omega (arith, q))
-      tree-says (declare o es t) (refer p) d k d′ k′ f f′ row R R′ rest rest′ h h′ q w e = absurd (omega (arith, q))
-      tree-says (declare o es t) (hold p us) d k d′ k′ f f′ row R R′ rest rest′ h h′ q w e = absurd (omega (arith, q))
-      tree-says (declare o es t) (foreign p u) d k d′ k′ f f′ row R R′ rest rest′ h h′ q w e = absurd (omega (arith, q))
-      tree-says (declare o es t) (damaged p) d k d′ k′ f f′ row R R′ rest rest′ h h′ q w e = absurd (omega (arith, q))
-      tree-says (foreign o t) (leaf p) d k d′ k′ f f′ row R R′ rest rest′ h h′ q w e = absurd (omega (arith, q))
-      tree-says (foreign o t) (refer p) d k d′ k′ f f′ row R R′ rest rest′ h h′ q w e = absurd (omega (arith, q))
-      tree-says (foreign o t) (hold p us) d k d′ k′ f f′ row R R′ rest rest′ h h′ q w e = absurd (omega (arith, q))
-      tree-says (foreign o t) (declare p us u) d k d′ k′ f f′ row R R′ rest rest′ h h′ q w e = absurd (omega (arith, q))
-      tree-says (foreign o t) (damaged p) d k d′ k′ f f′ row R R′ rest rest′ h h′ q w e = absurd (omega (arith, q))
-      tree-says (damaged o) (leaf p) d k d′ k′ f f′ row R R′ rest rest′ h h′ q w e = absurd (omega (arith, q))
-      tree-says (damaged o) (refer p) d k d′ k′ f f′ row R R′ rest rest′ h h′ q w e = absurd (omega (arith, q))
-      tree-says (damaged o) (hold p us) d k d′ k′ f f′ row R R′ rest rest′ h h′ q w e = absurd (omega (arith, q))
-      tree-says (damaged o) (declare p us u) d k d′ k′ f f′ row R R′ rest rest′ h h′ q w e = absurd (omega (arith, q))
-      tree-says (damaged o) (foreign p u) d k d′ k′ f f′ row R R′ rest rest′ h h′ q w e = absurd (omega (arith, q))
+      tree-beside (damaged o) d k f d′ k′ row R R′ rest rest′ h e = λ p f′ h′ q w. (one-says (topRow (damaged o) row R) (topRow (damaged p) row R′) w, refl)
 
       trees-say : (ts us : Trees) (d k d′ k′ : ℕ) (c : Children) (i : ℕ) → Fines s d c k i ts → Fines s′ d′ c k′ i us → (row : ℕ) (grows : Bool) (R R′ rest rest′ : List ℕ)
           → drop (wordsPerRow * row) table ≡ layouts ts grows row R ++ rest → drop (wordsPerRow * row) table′ ≡ layouts us grows row R′ ++ rest′ → many ts ≡ many us → Same row (row + sizes ts)
@@ -225,8 +208,7 @@ module _ (s s′ : List ℕ) where
           let x′ : drop (wordsPerRow * row) table′ ≡ T′ ++ (L′ ++ rest′) = h′ ∙ append-assoc T′ L′ rest′ in
           let a =
           item-says (isKey c i) t u d k d′ k′
-          (λ f f′ row R R′ rest rest′ h h′ e.
-          tree-says t u d k d′ k′ f f′ row R R′ rest rest′ h h′ (same-sort t u row R R′ rest rest′ h h′ d k d′ k′ f f′ (here t row e)) (top-same t u row R R′ rest rest′ h h′ (here t row e)) (λ i l g. e i (omega arith) g))
+          (λ f f′. tree-says t u d k d′ k′ f f′ (λ row R R′ rest rest′ h e. tree-beside t d k f d′ k′ row R R′ rest rest′ h e))
           (f .0) (f′ .0) row R R′ (L ++ rest) (L′ ++ rest′) x x′ (λ i l g. e i l (omega arith)) in
           let v : drop (wordsPerRow * (row + size t)) table ≡ L ++ rest = behind table row (size t) T (L ++ rest) (length-layout t row R) x in
           let v′ : drop (wordsPerRow * (row + size t)) table′ ≡ layouts us grows (row + size t) G′ ++ rest′ =
@@ -243,6 +225,4 @@ stands-say depth depth′ table table′ n s s′ t u st st′ e =
     let rest′ : List ℕ = drop (wordsPerRow * n) table′ in
     let x = laid-out depth table n s t st in
     let x′ = laid-out depth′ table′ n s′ u st′ in
-    let r = e 0 (omega (arith, st .some)) in
-    tree-says s s′ table table′ t u (suc depth) 0 (suc depth′) 0 (st .fine) (st′ .fine) 0 [] [] rest rest′ x x′
-    (same-sort s s′ table table′ t u 0 [] [] rest rest′ x x′ (suc depth) 0 (suc depth′) 0 (st .fine) (st′ .fine) r) (top-same s s′ table table′ t u 0 [] [] rest rest′ x x′ r) (λ i l g. e i (omega (arith, st .rows))) .0
+    tree-says s s′ table table′ t u (suc depth) 0 (suc depth′) 0 (st .fine) (st′ .fine) (tree-beside s s′ table table′ t (suc depth) 0 (st .fine) (suc depth′) 0) 0 [] [] rest rest′ x x′ (λ i l g. e i (omega (arith, st .rows))) .0
