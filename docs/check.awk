@@ -124,6 +124,8 @@ function names(text, n, i, part, between) {
         wrong("a backtick without its other one")
         return
     }
+    if (FILENAME ~ /LANDINGS|^bench|^tests/)
+        return # LANDINGS names what is gone, too, and these name parts of other programs
     for (i = 2; i <= n; i += 2) {
         between = part[i - 1]
         parentheses(between)

@@ -18,8 +18,9 @@ use Rattle.variable.specs.declared.answer.Written.the-variants as codes
 use Rattle.wide.specs.Words.{valueOf, words}
 use Rattle.wide.specs.Body.{sizeAt}
 use Rattle.wide.specs.Family.{Family, Coded as Form, is, short, other, behind, hasByte, longer, body, unmarked, marked, coded, form}
-use Rattle.wide.specs.Members.{variable, signed, unsigned}
-use Rattle.variable.specs.Answer.{readAs, readOf, readUsed, writtenOf, outputOf, writtenBeside as codedBeside}
+use Rattle.wide.specs.Members.{signed, unsigned}
+use Rattle.wide.specs.Contracts.{variable}
+use Rattle.variable.specs.Answer.{readAs, readOf, readUsed, writtenOf, outputOf, codedBeside}
 use Rattle.wide.proofs.Wides.{Words}
 use Rattle.wide.proofs.Ranks.{size-high}
 use Rattle.wide.proofs.Families.{cond-case, Takes}
@@ -45,15 +46,16 @@ use Rattle.writer.proofs.Asks.{yes-few}
 use Rattle.walker.specs.declared.standing.Standing.{Standing}
 use Rattle.walker.specs.declared.step.Step.{Step}
 use Rattle.walker.specs.declared.step.Step.the-variants.{To, NoStep, BadTable}
-use Rattle.resolve.specs.declared.moved.Move.{Move}
-use Rattle.resolve.specs.declared.moved.Move.the-variants as go
+use Rattle.resolve.specs.declared.one_move.Move.{Move}
+use Rattle.resolve.specs.declared.one_move.Move.the-variants as go
 use Rattle.resolve.specs.declared.resolved.Resolved.{Resolved}
 use Rattle.resolve.specs.declared.resolved.Resolved.the-variants as ends
 use Rattle.payload.specs.declared.part.Part.{Part}
 use Rattle.walker.specs.Walk.{genuine, inward, onward, alongside, stepIn, stepOn, stepAlong}
 use Rattle.resolve.specs.Resolve.{moveFrom, moveAt, chased, chase, resolve}
 use Rattle.payload.specs.Payload.{hasPayload, part, partOf, payloadAt}
-use Rattle.packing.specs.Packed.{within, Low, Small, Placed}
+use Rattle.packing.specs.Packed.{within}
+use Rattle.packing.specs.Contracts.{LowStep, SmallResolved, SmallPart}
 
 -- ---- rows and places
 
@@ -109,10 +111,10 @@ module _ (depth : ℕ) (table : List ℕ) (fit : (i : ℕ) → getD table i 0 < 
 
 -- ---- standings
 
-none-low : Low NoStep
+none-low : LowStep NoStep
 none-low = record { row-low = omega arith; bound-low = omega arith }
 
-pub bad-low : Low BadTable
+pub bad-low : LowStep BadTable
 bad-low = record { row-low = omega arith; bound-low = omega arith }
 
 -- what a genuine standing has
@@ -141,48 +143,48 @@ module _ (table : List ℕ) (n : ℕ) (few : n ≤ limit) (at : Standing) where
   abbrev R : Row
   R = rowAt table (at .row)
 
-  asked-low : (x : Step) → (Stood table n (at .row) (at .bound) → Low x) → Low (cond (genuine table n (at .row) (at .bound)) x BadTable)
-  asked-low x f = cond-case Low (genuine table n (at .row) (at .bound)) x BadTable (λ g. f (stood table n (at .row) (at .bound) g)) (λ _. bad-low)
+  asked-low : (x : Step) → (Stood table n (at .row) (at .bound) → LowStep x) → LowStep (cond (genuine table n (at .row) (at .bound)) x BadTable)
+  asked-low x f = cond-case LowStep (genuine table n (at .row) (at .bound)) x BadTable (λ g. f (stood table n (at .row) (at .bound) g)) (λ _. bad-low)
 
-  pub in-low : Low (stepIn table n at)
+  pub in-low : LowStep (stepIn table n at)
   unfolding stepIn
   in-low =
       asked-low (inward (at .row) R)
-      (λ g. cond-case Low (ltb (at .row + 1) (R .end)) (To (at .row + 1) (R .end)) NoStep
+      (λ g. cond-case LowStep (ltb (at .row + 1) (R .end)) (To (at .row + 1) (R .end)) NoStep
       (λ h. record { row-low = omega (arith, g .bounded, g .ends, ltb-true (at .row + 1) (R .end) h); bound-low = omega (arith, g .bounded, g .ends) })
       (λ _. none-low))
 
-  pub on-low : Low (stepOn table n at)
+  pub on-low : LowStep (stepOn table n at)
   unfolding stepOn
   on-low =
       asked-low (onward (at .bound) R)
-      (λ g. cond-case Low (ltb (R .end) (at .bound)) (To (R .end) (at .bound)) NoStep
+      (λ g. cond-case LowStep (ltb (R .end) (at .bound)) (To (R .end) (at .bound)) NoStep
       (λ h. record { row-low = omega (arith, g .bounded, g .ends); bound-low = omega (arith, g .bounded) })
       (λ _. none-low))
 
-  pub along-low : ((i : ℕ) → getD table i 0 < 2 ^ 32) → Low (stepAlong table n at)
+  pub along-low : ((i : ℕ) → getD table i 0 < 2 ^ 32) → LowStep (stepAlong table n at)
   unfolding stepAlong rowAt
   along-low fit =
       asked-low (alongside table (at .row) R)
-      (λ g. cond-case Low (eqb (R .kind) kindReference) (cond (ltb (R .w1) (at .row)) (To (R .w1) (rowAt table (R .w1) .end)) BadTable) NoStep
-      (λ _. cond-case Low (ltb (R .w1) (at .row)) (To (R .w1) (rowAt table (R .w1) .end)) BadTable
+      (λ g. cond-case LowStep (eqb (R .kind) kindReference) (cond (ltb (R .w1) (at .row)) (To (R .w1) (rowAt table (R .w1) .end)) BadTable) NoStep
+      (λ _. cond-case LowStep (ltb (R .w1) (at .row)) (To (R .w1) (rowAt table (R .w1) .end)) BadTable
       (λ h. record { row-low = omega (arith, g .below, ltb-true (R .w1) (at .row) h); bound-low = fit (wordsPerRow * R .w1 + 1) })
       (λ _. bad-low))
       (λ _. none-low))
 
 module _ (table : List ℕ) (n : ℕ) (at : Standing) (s : Step) where
-  pub in-packs : s ≡ stepIn table n at → n ≤ limit → Low s
-  in-packs e few = subst Low (sym e) (in-low table n few at)
+  pub in-packs : s ≡ stepIn table n at → n ≤ limit → LowStep s
+  in-packs e few = subst LowStep (sym e) (in-low table n few at)
 
-  pub on-packs : s ≡ stepOn table n at → n ≤ limit → Low s
-  on-packs e few = subst Low (sym e) (on-low table n few at)
+  pub on-packs : s ≡ stepOn table n at → n ≤ limit → LowStep s
+  on-packs e few = subst LowStep (sym e) (on-low table n few at)
 
-  pub along-packs : ((i : ℕ) → getD table i 0 < 2 ^ 32) → s ≡ stepAlong table n at → n ≤ limit → Low s
-  along-packs fit e few = subst Low (sym e) (along-low table n few at fit)
+  pub along-packs : ((i : ℕ) → getD table i 0 < 2 ^ 32) → s ≡ stepAlong table n at → n ≤ limit → LowStep s
+  along-packs fit e few = subst LowStep (sym e) (along-low table n few at fit)
 
 -- ---- resolving
 
-bad-small : Small ends.BadTable
+bad-small : SmallResolved ends.BadTable
 bad-small = record { row-small = omega arith; bound-small = omega arith; moves-small = omega arith }
 
 -- a row where resolving stops is below n
@@ -194,48 +196,48 @@ stop-below table n row =
     (λ _ e. absurd (let z : _≡_ {A = ℕ} 0 1 = cc in omega arith))
 
 module _ (table : List ℕ) (fit : (i : ℕ) → getD table i 0 < 2 ^ 32) (n : ℕ) (few : n ≤ limit) where
-  chased-small : (row moves : ℕ) (rest : ℕ → Resolved) → moves ≤ limit → ((next : ℕ) → Small (rest next)) → (m : Move) → moveAt table n row ≡ m
-      → Small (chased m (ends.At row (rowAt table row .end) moves) rest)
+  chased-small : (row moves : ℕ) (rest : ℕ → Resolved) → moves ≤ limit → ((next : ℕ) → SmallResolved (rest next)) → (m : Move) → moveAt table n row ≡ m
+      → SmallResolved (chased m (ends.At row (rowAt table row .end) moves) rest)
   unfolding rowAt
   chased-small row moves rest l f go.Stop e =
       record { row-small = omega (arith, stop-below table n row e); bound-small = fit (wordsPerRow * row + 1); moves-small = omega arith }
   chased-small row moves rest l f (go.To next) e = f next
   chased-small row moves rest l f go.Broken e = bad-small
 
-  chase-small : (left row moves : ℕ) → moves + left ≤ limit → Small (chase table n left row moves)
+  chase-small : (left row moves : ℕ) → moves + left ≤ limit → SmallResolved (chase table n left row moves)
   unfolding chase
   chase-small zero row moves l = bad-small
   chase-small (suc left) row moves l =
       chased-small row moves (λ next. chase table n left next (moves + 1)) (omega arith) (λ next. chase-small left next (moves + 1) (omega arith)) (moveAt table n row) refl
 
-  resolve-small : (row : ℕ) → Small (resolve table n row)
+  resolve-small : (row : ℕ) → SmallResolved (resolve table n row)
   unfolding resolve
   resolve-small row =
-      cond-case Small (leb n (lent table)) (chase table n n row 0) ends.BadTable
+      cond-case SmallResolved (leb n (lent table)) (chase table n n row 0) ends.BadTable
       (λ _. chase-small n row 0 (omega arith))
       (λ _. bad-small)
 
 module _ (table : List ℕ) (fit : (i : ℕ) → getD table i 0 < 2 ^ 32) (n row : ℕ) (r : Resolved) (e : r ≡ within n (resolve table n row) ends.BadTable) where
-  pub resolved-small : Small r
+  pub resolved-small : SmallResolved r
   unfolding within
   resolved-small =
-      subst Small (sym e)
-      (cond-case Small (leb n limit) (resolve table n row) ends.BadTable
+      subst SmallResolved (sym e)
+      (cond-case SmallResolved (leb n limit) (resolve table n row) ends.BadTable
       (λ h. resolve-small table fit n (leb-true n limit h) row)
       (λ _. bad-small))
 
 -- ---- payloads
 
-front : Placed (part 0 0)
+front : SmallPart (part 0 0)
 front = record { place-short = omega arith; size-short = omega arith }
 
 module _ (table : List ℕ) (fit : (i : ℕ) → getD table i 0 < 2 ^ 32) (row : ℕ) (s : List ℕ) (p : Part) (e : p ≡ payloadAt table row s) where
-  pub payload-short : Placed p
+  pub payload-short : SmallPart p
   unfolding payloadAt rowAt
   payload-short =
-      subst Placed (sym e)
-      (cond-case Placed (ltb row (lent table)) (partOf (rowAt table row) s) (part 0 0)
-      (λ _. cond-case Placed (hasPayload (rowAt table row .kind) && leb (rowAt table row .w0 + rowAt table row .w1) (length s)) (part (rowAt table row .w0) (rowAt table row .w1)) (part 0 0)
+      subst SmallPart (sym e)
+      (cond-case SmallPart (ltb row (lent table)) (partOf (rowAt table row) s) (part 0 0)
+      (λ _. cond-case SmallPart (hasPayload (rowAt table row .kind) && leb (rowAt table row .w0 + rowAt table row .w1) (length s)) (part (rowAt table row .w0) (rowAt table row .w1)) (part 0 0)
       (λ _. record { place-short = fit (wordsPerRow * row + 2); size-short = fit (wordsPerRow * row + 3) })
       (λ _. front))
       (λ _. front))

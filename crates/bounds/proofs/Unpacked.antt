@@ -11,7 +11,7 @@ use Rattle.wide.specs.Words.{valueOf, words}
 use Rattle.wide.specs.Family.{form}
 use Rattle.wide.specs.Members.{signed, unsigned}
 use Rattle.variable.specs.declared.answer.Written.{Written as Coded}
-use Rattle.variable.specs.Answer.{readOf, readNumber, readUsed, writtenOf, writtenNumber as codedNumber, writtenBeside as codedBeside}
+use Rattle.variable.specs.Answer.{readOf, readNumber, readUsed, writtenOf, codedNumber, codedBeside}
 use Rattle.wide.proofs.Families.{cond-case}
 use Rattle.rows.specs.Table.{limit}
 use Rattle.format.specs.Answer.{answer, answerNumber, answerBeside}
@@ -21,7 +21,8 @@ use Rattle.walker.specs.declared.standing.Standing.{Standing}
 use Rattle.walker.specs.declared.step.Step.{Step}
 use Rattle.walker.specs.declared.step.Step.the-variants.{BadTable}
 use Rattle.walker.specs.Walk.{stepIn, stepOn, stepAlong}
-use Rattle.packing.specs.Packed.{packed, packedAnswer, packedChecked, packedWritten, packedCoded, packedStep, within, Low}
+use Rattle.packing.specs.Packed.{packed, packedAnswer, packedChecked, packedWritten, packedCoded, packedStep, within}
+use Rattle.packing.specs.Contracts.{LowStep}
 use Rattle.packing.proofs.Unpacks.{Unpacks, unpacks, Steps, steps}
 use Rattle.bounds.proofs.Bounds as bounds
 
@@ -41,9 +42,9 @@ unfolding packedWritten
 write-unpacks depth table fit n s room = unpacks _ _ (bounds.written-beside depth table fit n s room (written depth table n s room) refl)
 
 module _ (table : List ℕ) (n : ℕ) (at : Standing) where
-  within-steps : (x : Step) → (n ≤ limit → Low x) → Steps (packedStep (within n x BadTable)) (within n x BadTable)
+  within-steps : (x : Step) → (n ≤ limit → LowStep x) → Steps (packedStep (within n x BadTable)) (within n x BadTable)
   unfolding within
-  within-steps x f = steps (within n x BadTable) (cond-case Low (leb n limit) x BadTable (λ h. f (leb-true n limit h)) (λ _. bounds.bad-low))
+  within-steps x f = steps (within n x BadTable) (cond-case LowStep (leb n limit) x BadTable (λ h. f (leb-true n limit h)) (λ _. bounds.bad-low))
 
   pub in-unpacks : Steps (packedStep (within n (stepIn table n at) BadTable)) (within n (stepIn table n at) BadTable)
   in-unpacks = within-steps (stepIn table n at) (λ h. bounds.in-low table n h at)

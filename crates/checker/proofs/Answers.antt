@@ -8,26 +8,26 @@ use lib.ListN.{length}
 use lib.Dec.{eqb}
 use borrow.Author.Tests.{le-leb, lt-leb, eq-eqb, ne-eqb}
 use Rattle.rows.specs.Table.{lent, limit}
-use Rattle.registry.specs.Registry.{chain, Based}
+use Rattle.registry.specs.Contracts.{chain, Based}
 use Rattle.registry.proofs.Walks.{based-plain, below-none}
 use Rattle.format.specs.declared.answer.Answer.the-variants.{Accepted}
 use Rattle.format.specs.Tree.{Tree}
 use Rattle.format.specs.Answer.{answer, tableAfter}
-use Rattle.rules.specs.Fine.{Stands}
+use Rattle.rules.specs.Obeys.{Stands}
 use Rattle.rules.proofs.Exact as exact
 use Rattle.rules.specs.Grow.{Growth, grew, bad, grow, endsWith, rulesHold}
 use Rattle.checker.specs.declared.checked.Checked.{Checked}
 use Rattle.checker.specs.declared.checked.Checked.the-variants.{Right, BadTable}
-use Rattle.checker.specs.declared.standing.Standing.{Standing}
-use Rattle.checker.specs.declared.standing.Standing.the-variants.{Until, Broken}
+use Rattle.checker.specs.declared.extent.Extent.{Extent}
+use Rattle.checker.specs.declared.extent.Extent.the-variants.{Until, Broken}
 use Rattle.checker.specs.Checked.{checked}
-use Rattle.checker.specs.Contracts.{EntriesBefore, standingOf}
+use Rattle.checker.specs.Contracts.{EntriesBefore, extentOf}
 
-with-until : (n : ℕ) (g : Growth) (next : ℕ) → standingOf g ≡ Until next → endsWith n g ≡ eqb next n
+with-until : (n : ℕ) (g : Growth) (next : ℕ) → extentOf g ≡ Until next → endsWith n g ≡ eqb next n
 with-until n (grew t e) next q = let i : e ≡ next = cc in ap (λ (x : ℕ). eqb x n) i
 with-until n bad next q = cc
 
-with-broken : (n : ℕ) (g : Growth) → standingOf g ≡ Broken → endsWith n g ≡ false
+with-broken : (n : ℕ) (g : Growth) → extentOf g ≡ Broken → endsWith n g ≡ false
 with-broken n (grew t e) q = cc
 with-broken n bad q = refl
 
@@ -57,10 +57,10 @@ module _ (depth : ℕ) (table : List ℕ) (n : ℕ) (s : List ℕ) where
         pub start-asks : EntriesBefore table n 0 0 0
         start-asks = record { room = omega arith; few = few; here = omega arith; below = below-none table 0 0 }
 
-        module _ (short : length s ≤ limit) (g : Standing) (read : g ≡ standingOf (grow table n s (depth + 1) (chain table 0 0) 0)) where
-          there : g ≡ standingOf (grow table n s (suc depth) [] 0)
+        module _ (short : length s ≤ limit) (g : Extent) (read : g ≡ extentOf (grow table n s (depth + 1) (chain table 0 0) 0)) where
+          there : g ≡ extentOf (grow table n s (suc depth) [] 0)
           unfolding chain
-          there = let e : depth + 1 ≡ suc depth = omega arith in read ∙ ap (λ (d : ℕ). standingOf (grow table n s d [] 0)) e
+          there = let e : depth + 1 ≡ suc depth = omega arith in read ∙ ap (λ (d : ℕ). extentOf (grow table n s d [] 0)) e
 
           by : (b : Bool) → endsWith n (grow table n s (suc depth) [] 0) ≡ b → rulesHold depth table n s ≡ b
           unfolding rulesHold

@@ -14,7 +14,7 @@ use borrow.Author.Tests.{lt-ltb, le-ltb, ltb-true, eq-eqb, eqb-true}
 use Rattle.rows.specs.declared.row.Row.{Row}
 use Rattle.rows.specs.Table.{Own, ownOf, rowAt, lent, limit}
 use Rattle.rows.specs.Kinds.{declarationOwn}
-use Rattle.registry.specs.Registry.{chain, firstIn, Based, baseOf}
+use Rattle.registry.specs.Contracts.{chain, firstIn, Based, baseOf}
 use Rattle.registry.proofs.Walks.{based-fewer, based-plain, based-rows, chain-fewer, first-base, first-plain, length-chain, below-none, below-fewer, walk-start, chain-grown, walk-grown, below-grown}
 use Rattle.format.specs.declared.head.Holder.{Holder}
 use Rattle.format.specs.declared.head.Children.{Children}
@@ -26,41 +26,41 @@ use Rattle.format.proofs.Layouts.{no-entry, around-force, entries-each, in-fore
 use Rattle.rules.specs.declared.shape.Shape.{Shape}
 use Rattle.rules.specs.declared.shape.Shape.the-variants.{Bad, Leaf, Refer, Hold, Declare, Whole, Damaged}
 use Rattle.rules.specs.Shape.{shapeOf}
-use Rattle.rules.specs.Grow.{Growth, grew, bad, Growths, grewAll, badAll, Grower, growKey, item, before, andThen, grows, pointing, overChildren, overValue, overEntries, overBody, judged, byShape, grow}
-use Rattle.rules.specs.Fine.{KeyFine, IfKey, Fine}
+use Rattle.rules.specs.Grow.{Growth, grew, bad, Growths, grewAll, badAll, Grower, growKey, item, atFront, andThen, grows, pointing, overChildren, overValue, overEntries, overBody, judged, byShape, grow}
+use Rattle.rules.specs.Obeys.{KeyObeys, IfKey, Obeys}
 use Rattle.rules.proofs.Says.{damaged-inside as inside-data}
 use Rattle.rules.proofs.Growth.{Grew, Sound, item-sound, grow-sound}
-use Rattle.checker.specs.declared.standing.Standing.{Standing}
-use Rattle.checker.specs.declared.standing.Standing.the-variants.{Until, Broken}
-use Rattle.checker.specs.Contracts.{EntriesBefore, EntriesBeforeChild, BasedForChild, alone, standsAlone, standingOf, standingAll, endingAt}
+use Rattle.checker.specs.declared.extent.Extent.{Extent}
+use Rattle.checker.specs.declared.extent.Extent.the-variants.{Until, Broken}
+use Rattle.checker.specs.Contracts.{EntriesBefore, EntriesBeforeChild, BasedForChild, isAlone, standsAlone, extentOf, extentAll, endingAt}
 use Rattle.checker.proofs.Leaves.{ends-grown}
 
 -- ---- one value position
 
 grow-row : (d : ℕ) (table : List ℕ) (n : ℕ) (s : List ℕ) (registry : List ℕ) (row : ℕ) (w : Row) (x : Shape) → row < n → w ≡ rowAt table row
     → x ≡ shapeOf s (ownOf w)
-    → standingOf (grow table n s (suc d) registry row) ≡ endingAt (w .end) (standingOf (byShape table n s (grow table n s d) d registry row (ownOf w) x))
+    → extentOf (grow table n s (suc d) registry row) ≡ endingAt (w .end) (extentOf (byShape table n s (grow table n s d) d registry row (ownOf w) x))
 unfolding grow
 grow-row d table n s registry row w x h q e = rw (lt-ltb row n h, ← q, ← e) (ends-grown (w .end) (byShape table n s (grow table n s d) d registry row (ownOf w) x))
 
 module _ (d : ℕ) (table : List ℕ) (n : ℕ) (s : List ℕ) (registry : List ℕ) (row : ℕ) where
-  pub value-deep : d ≡ 0 → Broken ≡ standingOf (grow table n s d registry row)
+  pub value-deep : d ≡ 0 → Broken ≡ extentOf (grow table n s d registry row)
   unfolding grow
   value-deep e = rw e
 
-  pub value-out : n ≤ row → Broken ≡ standingOf (grow table n s d registry row)
+  pub value-out : n ≤ row → Broken ≡ extentOf (grow table n s d registry row)
   unfolding grow
   value-out h = go d
     where
-      go : (x : ℕ) → Broken ≡ standingOf (grow table n s x registry row)
+      go : (x : ℕ) → Broken ≡ extentOf (grow table n s x registry row)
       go zero = refl
       go (suc x) = rw (le-ltb row n h)
 
-  pub value-in : (w : Row) (x : Shape) (g r : Standing) → (d ≡ 0 → ⊥) → row < n → w ≡ rowAt table row → x ≡ shapeOf s (ownOf w)
-      → g ≡ standingOf (byShape table n s (grow table n s (d - 1)) (d - 1) registry row (ownOf w) x) → r ≡ endingAt (w .end) g → r ≡ standingOf (grow table n s d registry row)
+  pub value-in : (w : Row) (x : Shape) (g r : Extent) → (d ≡ 0 → ⊥) → row < n → w ≡ rowAt table row → x ≡ shapeOf s (ownOf w)
+      → g ≡ extentOf (byShape table n s (grow table n s (d - 1)) (d - 1) registry row (ownOf w) x) → r ≡ endingAt (w .end) g → r ≡ extentOf (grow table n s d registry row)
   value-in w x g r left h q e f j =
       let p : suc (d - 1) ≡ d = omega arith in
-      subst (λ (y : ℕ). r ≡ standingOf (grow table n s y registry row)) p (j ∙ ap (endingAt (w .end)) f ∙ sym (grow-row (d - 1) table n s registry row w x h q e))
+      subst (λ (y : ℕ). r ≡ extentOf (grow table n s y registry row)) p (j ∙ ap (endingAt (w .end)) f ∙ sym (grow-row (d - 1) table n s registry row w x h q e))
 
 -- a leaf that ends behind itself
 module _ (d : ℕ) (table : List ℕ) (n : ℕ) (s : List ℕ) (row : ℕ) (b : Bool) (is : b ≡ standsAlone table n s row) (t : b ≡ true) where
@@ -70,17 +70,17 @@ module _ (d : ℕ) (table : List ℕ) (n : ℕ) (s : List ℕ) (row : ℕ) (b : 
   abbrev X : Shape
   X = shapeOf s (ownOf W)
 
-  stands : ltb row n && alone X row (W .end) ≡ true
+  stands : ltb row n && isAlone X row (W .end) ≡ true
   unfolding standsAlone
   stands = sym is ∙ t
 
   alone-here : row < n
-  alone-here = ltb-true row n (and-first (ltb row n) (alone X row (W .end)) stands)
+  alone-here = ltb-true row n (and-first (ltb row n) (isAlone X row (W .end)) stands)
 
   pub alone-fits : n ≤ limit → Fits w64 (row + 1)
   alone-fits few = omega (arith, alone-here)
 
-  alone-is : (x : Shape) → alone x row (W .end) ≡ true → (x ≡ Leaf) × (W .end ≡ row + 1)
+  alone-is : (x : Shape) → isAlone x row (W .end) ≡ true → (x ≡ Leaf) × (W .end ≡ row + 1)
   alone-is Bad e = absurd (let z : _≡_ {A = ℕ} 0 1 = cc in omega arith)
   alone-is Leaf e = (refl, eqb-true (W .end) (row + 1) e)
   alone-is Refer e = absurd (let z : _≡_ {A = ℕ} 0 1 = cc in omega arith)
@@ -89,22 +89,22 @@ module _ (d : ℕ) (table : List ℕ) (n : ℕ) (s : List ℕ) (row : ℕ) (b : 
   alone-is Whole e = absurd (let z : _≡_ {A = ℕ} 0 1 = cc in omega arith)
   alone-is Damaged e = absurd (let z : _≡_ {A = ℕ} 0 1 = cc in omega arith)
 
-  pub value-alone : (registry : List ℕ) → 0 < d → Until (row + 1) ≡ standingOf (grow table n s d registry row)
+  pub value-alone : (registry : List ℕ) → 0 < d → Until (row + 1) ≡ extentOf (grow table n s d registry row)
   unfolding byShape
   value-alone registry left =
-      let l = alone-is X (and-second (ltb row n) (alone X row (W .end)) stands) in
+      let l = alone-is X (and-second (ltb row n) (isAlone X row (W .end)) stands) in
       value-in d table n s registry row W X (Until (row + 1)) (Until (row + 1)) (λ z. absurd (let q : ⊥ = omega arith in q)) alone-here refl refl
-      (ap (λ (x : Shape). standingOf (byShape table n s (grow table n s (d - 1)) (d - 1) registry row (ownOf W) x)) (sym (l .0)))
+      (ap (λ (x : Shape). extentOf (byShape table n s (grow table n s (d - 1)) (d - 1) registry row (ownOf W) x)) (sym (l .0)))
       (rw (eq-eqb (row + 1) (W .end) (sym (l .1))))
 
 -- ---- a row by its shape; d levels are left below it
 
-over-value : (o : Own) (es : Trees) (p : Growth) → standingOf (overValue o es p) ≡ standingOf p
+over-value : (o : Own) (es : Trees) (p : Growth) → extentOf (overValue o es p) ≡ extentOf p
 over-value o es (grew t a) = refl
 over-value o es bad = refl
 
 -- a declaration stands as its entries and its value do, whatever its row says
-entries-alike : (G : Grower) (o p : Own) (row : ℕ) (q : Growths) → standingOf (overEntries G o row q) ≡ standingOf (overEntries G p row q)
+entries-alike : (G : Grower) (o p : Own) (row : ℕ) (q : Growths) → extentOf (overEntries G o row q) ≡ extentOf (overEntries G p row q)
 entries-alike G o p row (grewAll es next) = over-value o es (G (entries es row []) next) ∙ sym (over-value p es (G (entries es row []) next))
 entries-alike G o p row badAll = refl
 
@@ -112,75 +112,75 @@ module _ (d : ℕ) (table : List ℕ) (n : ℕ) (s : List ℕ) (registry : List 
   abbrev R : Shape → Growth
   R = byShape table n s (grow table n s d) d registry row (ownOf w)
 
-  like : (y : Shape) (r : Standing) → x ≡ y → r ≡ standingOf (R y) → r ≡ standingOf (R x)
-  like y r e f = f ∙ ap (λ (z : Shape). standingOf (R z)) (sym e)
+  like : (y : Shape) (r : Extent) → x ≡ y → r ≡ extentOf (R y) → r ≡ extentOf (R x)
+  like y r e f = f ∙ ap (λ (z : Shape). extentOf (R z)) (sym e)
 
-  pub row-bad : x ≡ Bad → Broken ≡ standingOf (R x)
+  pub row-bad : x ≡ Bad → Broken ≡ extentOf (R x)
   unfolding byShape
   row-bad e = like Bad Broken e refl
 
-  pub row-leaf : x ≡ Leaf → Until (row + 1) ≡ standingOf (R x)
+  pub row-leaf : x ≡ Leaf → Until (row + 1) ≡ extentOf (R x)
   unfolding byShape
   row-leaf e = like Leaf (Until (row + 1)) e refl
 
-  pub row-refer : (r : Standing) → x ≡ Refer → r ≡ standingOf (pointing registry row (ownOf w)) → r ≡ standingOf (R x)
+  pub row-refer : (r : Extent) → x ≡ Refer → r ≡ extentOf (pointing registry row (ownOf w)) → r ≡ extentOf (R x)
   unfolding byShape
   row-refer r e f = like Refer r e f
 
-  over-children : (q : Growths) → standingOf (overChildren (ownOf w) q) ≡ standingAll q
+  over-children : (q : Growths) → extentOf (overChildren (ownOf w) q) ≡ extentAll q
   over-children (grewAll ts next) = refl
   over-children badAll = refl
 
-  row-holder : (h : Holder) (count : ℕ) (r : Standing) → x ≡ Hold h → count ≡ childCount h (w .w0)
-      → r ≡ standingAll (grows table n s (grow table n s d) (childrenOf h) registry 0 count (row + 1)) → r ≡ standingOf (R x)
+  row-holder : (h : Holder) (count : ℕ) (r : Extent) → x ≡ Hold h → count ≡ childCount h (w .w0)
+      → r ≡ extentAll (grows table n s (grow table n s d) (childrenOf h) registry 0 count (row + 1)) → r ≡ extentOf (R x)
   unfolding byShape
   row-holder h count r e i f =
-      like (Hold h) r e (f ∙ ap (λ (z : ℕ). standingAll (grows table n s (grow table n s d) (childrenOf h) registry 0 z (row + 1))) i
+      like (Hold h) r e (f ∙ ap (λ (z : ℕ). extentAll (grows table n s (grow table n s d) (childrenOf h) registry 0 z (row + 1))) i
       ∙ sym (over-children (grows table n s (grow table n s d) (childrenOf h) registry 0 (childCount h (w .w0)) (row + 1))))
 
-  over-body : (p : Growth) → standingOf (overBody (ownOf w) p) ≡ standingOf p
+  over-body : (p : Growth) → extentOf (overBody (ownOf w) p) ≡ extentOf p
   over-body (grew t next) = refl
   over-body bad = refl
 
-  row-body : (r : Standing) → x ≡ Whole → r ≡ standingOf (grow table n s d (inBody registry) (row + 1)) → r ≡ standingOf (R x)
+  row-body : (r : Extent) → x ≡ Whole → r ≡ extentOf (grow table n s d (inBody registry) (row + 1)) → r ≡ extentOf (R x)
   unfolding byShape
   row-body r e f = like Whole r e (f ∙ sym (over-body (grow table n s d (inBody registry) (row + 1))))
 
-  pub row-declare : (m : ℕ) (r : Standing) → x ≡ Declare → m ≡ w .w0
-      → r ≡ standingOf (overEntries (grow table n s d) (declarationOwn m) (row + 1) (grows table n s (grow table n s d) Entries [] 0 m (row + 1))) → r ≡ standingOf (R x)
+  pub row-declare : (m : ℕ) (r : Extent) → x ≡ Declare → m ≡ w .w0
+      → r ≡ extentOf (overEntries (grow table n s d) (declarationOwn m) (row + 1) (grows table n s (grow table n s d) Entries [] 0 m (row + 1))) → r ≡ extentOf (R x)
   unfolding byShape
   row-declare m r e l f =
       like Declare r e
-      (f ∙ ap (λ (z : ℕ). standingOf (overEntries (grow table n s d) (declarationOwn z) (row + 1) (grows table n s (grow table n s d) Entries [] 0 z (row + 1)))) l
+      (f ∙ ap (λ (z : ℕ). extentOf (overEntries (grow table n s d) (declarationOwn z) (row + 1) (grows table n s (grow table n s d) Entries [] 0 z (row + 1)))) l
       ∙ entries-alike (grow table n s d) (declarationOwn (w .w0)) (ownOf w) (row + 1) (grows table n s (grow table n s d) Entries [] 0 (w .w0) (row + 1)))
 
-  row-spoilt : (r : Standing) → x ≡ Damaged
-      → r ≡ standingOf (judged row (ownOf w) (whole (w .w0 + w .w1) (value d s (inForeign (length registry)) (w .w0) (w .w0 + w .w1)))) → r ≡ standingOf (R x)
+  row-spoilt : (r : Extent) → x ≡ Damaged
+      → r ≡ extentOf (judged row (ownOf w) (whole (w .w0 + w .w1) (value d s (inForeign (length registry)) (w .w0) (w .w0 + w .w1)))) → r ≡ extentOf (R x)
   unfolding byShape
   row-spoilt r e f = like Damaged r e f
 
 -- the registry as the code has it: k entries, the first of them at `first`
 module _ (d : ℕ) (table : List ℕ) (n : ℕ) (s : List ℕ) (first k row : ℕ) (w : Row) (x : Shape) where
-  pub row-hold : (h : Holder) (c : Children) (m count : ℕ) (r : Standing) → x ≡ Hold h → c ≡ childrenOf h → m ≡ w .w0 → count ≡ childCount h m
-      → r ≡ standingAll (grows table n s (grow table n s d) c (chain table first (inForce c k 0)) 0 count (row + 1))
-      → r ≡ standingOf (byShape table n s (grow table n s d) d (chain table first k) row (ownOf w) x)
+  pub row-hold : (h : Holder) (c : Children) (m count : ℕ) (r : Extent) → x ≡ Hold h → c ≡ childrenOf h → m ≡ w .w0 → count ≡ childCount h m
+      → r ≡ extentAll (grows table n s (grow table n s d) c (chain table first (inForce c k 0)) 0 count (row + 1))
+      → r ≡ extentOf (byShape table n s (grow table n s d) d (chain table first k) row (ownOf w) x)
   row-hold h c m count r e i l j f =
       row-holder d table n s (chain table first k) row w x h count r e (j ∙ ap (childCount h) l)
-      (f ∙ ap (λ (y : Children). standingAll (grows table n s (grow table n s d) y (chain table first (inForce y k 0)) 0 count (row + 1))) i
-      ∙ ap (λ (y : ℕ). standingAll (grows table n s (grow table n s d) (childrenOf h) (chain table first y) 0 count (row + 1))) (around-force h k 0))
+      (f ∙ ap (λ (y : Children). extentAll (grows table n s (grow table n s d) y (chain table first (inForce y k 0)) 0 count (row + 1))) i
+      ∙ ap (λ (y : ℕ). extentAll (grows table n s (grow table n s d) (childrenOf h) (chain table first y) 0 count (row + 1))) (around-force h k 0))
 
-  pub row-whole : (m : ℕ) (r : Standing) → x ≡ Whole → m ≡ inForeign k → r ≡ standingOf (grow table n s d (chain table first m) (row + 1))
-      → r ≡ standingOf (byShape table n s (grow table n s d) d (chain table first k) row (ownOf w) x)
+  pub row-whole : (m : ℕ) (r : Extent) → x ≡ Whole → m ≡ inForeign k → r ≡ extentOf (grow table n s d (chain table first m) (row + 1))
+      → r ≡ extentOf (byShape table n s (grow table n s d) d (chain table first k) row (ownOf w) x)
   row-whole m r e i f =
       let q : inBody (chain table first k) ≡ chain table first m =
       ap (λ (y : ℕ). take (inForeign y) (chain table first k)) (length-chain table first k) ∙ chain-fewer table first k (inForeign k) (in-foreign-few k) ∙ ap (chain table first) (sym i) in
-      row-body d table n s (chain table first k) row w x r e (f ∙ ap (λ (l : List ℕ). standingOf (grow table n s d l (row + 1))) (sym q))
+      row-body d table n s (chain table first k) row w x r e (f ∙ ap (λ (l : List ℕ). extentOf (grow table n s d l (row + 1))) (sym q))
 
-  pub row-damaged : (r : Standing) → x ≡ Damaged → r ≡ standingOf (judged row (ownOf w) (whole (w .w0 + w .w1) (value d s (inForeign k) (w .w0) (w .w0 + w .w1))))
-      → r ≡ standingOf (byShape table n s (grow table n s d) d (chain table first k) row (ownOf w) x)
+  pub row-damaged : (r : Extent) → x ≡ Damaged → r ≡ extentOf (judged row (ownOf w) (whole (w .w0 + w .w1) (value d s (inForeign k) (w .w0) (w .w0 + w .w1))))
+      → r ≡ extentOf (byShape table n s (grow table n s d) d (chain table first k) row (ownOf w) x)
   row-damaged r e f =
       row-spoilt d table n s (chain table first k) row w x r e
-      (f ∙ ap (λ (y : ℕ). standingOf (judged row (ownOf w) (whole (w .w0 + w .w1) (value d s (inForeign y) (w .w0) (w .w0 + w .w1))))) (sym (length-chain table first k)))
+      (f ∙ ap (λ (y : ℕ). extentOf (judged row (ownOf w) (whole (w .w0 + w .w1) (value d s (inForeign y) (w .w0) (w .w0 + w .w1))))) (sym (length-chain table first k)))
 
 pub damaged-inside : (s : List ℕ) (w : Row) (x : Shape) → x ≡ shapeOf s (ownOf w) → x ≡ Damaged → w .w0 + w .w1 ≤ length s
 damaged-inside s w x is e = inside-data s (ownOf w) (sym is ∙ e)
@@ -236,12 +236,12 @@ value-based table base k m e b = rw e b
 
 -- ---- a child
 
-module _ (d : ℕ) (table : List ℕ) (n : ℕ) (s : List ℕ) (row first k : ℕ) (c : Children) (i : ℕ) (r : Standing) where
-  abbrev I : Standing
-  I = standingOf (item table n s (isKey c i) (grow table n s d) (chain table first (inForce c k i)) row)
+module _ (d : ℕ) (table : List ℕ) (n : ℕ) (s : List ℕ) (row first k : ℕ) (c : Children) (i : ℕ) (r : Extent) where
+  abbrev I : Extent
+  I = extentOf (item table n s (isKey c i) (grow table n s d) (chain table first (inForce c k i)) row)
 
   module _ (b : Bool) (e : b ≡ isKey c i) where
-    pub child-key : b ≡ true → r ≡ standingOf (growKey table n s row) → r ≡ I
+    pub child-key : b ≡ true → r ≡ extentOf (growKey table n s row) → r ≡ I
     unfolding item
     child-key t f = rw (← e, t) f
 
@@ -249,7 +249,7 @@ module _ (d : ℕ) (table : List ℕ) (n : ℕ) (s : List ℕ) (row first k : �
     unfolding item
     child-alone t q is y left f = rw (← e, t) (f ∙ value-alone d table n s row q is y (chain table first (inForce c k i)) left)
 
-    pub child-value : b ≡ false → (m : ℕ) → m ≡ inForce c k i → r ≡ standingOf (grow table n s d (chain table first m) row) → r ≡ I
+    pub child-value : b ≡ false → (m : ℕ) → m ≡ inForce c k i → r ≡ extentOf (grow table n s d (chain table first m) row) → r ≡ I
     unfolding item
     child-value t m g f = rw (← e, t, ← g) f
 
@@ -280,19 +280,19 @@ chain-next table n first k i row Entries a = chain-grown table first i row (a .l
 
 -- ---- the loop
 
-before-grown : (t : Tree) (q : Growths) → standingAll (before t q) ≡ standingAll q
+before-grown : (t : Tree) (q : Growths) → extentAll (atFront t q) ≡ extentAll q
 before-grown t (grewAll ts e) = refl
 before-grown t badAll = refl
 
-then-until : (p : Growth) (rest : ℕ → Growths) (a : ℕ) → standingOf p ≡ Until a → standingAll (andThen p rest) ≡ standingAll (rest a)
-then-until (grew t m) rest a e = let i : m ≡ a = cc in before-grown t (rest m) ∙ ap (λ (x : ℕ). standingAll (rest x)) i
+then-until : (p : Growth) (rest : ℕ → Growths) (a : ℕ) → extentOf p ≡ Until a → extentAll (andThen p rest) ≡ extentAll (rest a)
+then-until (grew t m) rest a e = let i : m ≡ a = cc in before-grown t (rest m) ∙ ap (λ (x : ℕ). extentAll (rest x)) i
 then-until bad rest a e = cc
 
-then-broken : (p : Growth) (rest : ℕ → Growths) → standingOf p ≡ Broken → standingAll (andThen p rest) ≡ Broken
+then-broken : (p : Growth) (rest : ℕ → Growths) → extentOf p ≡ Broken → extentAll (andThen p rest) ≡ Broken
 then-broken (grew t m) rest e = cc
 then-broken bad rest e = refl
 
-grew-of : (F : Tree → Type 0) (table : List ℕ) (n : ℕ) (registry : List ℕ) (row : ℕ) (p : Growth) (a : ℕ) → standingOf p ≡ Until a → Sound F table n registry row p → (t : Tree) × Grew F table n registry row t a
+grew-of : (F : Tree → Type 0) (table : List ℕ) (n : ℕ) (registry : List ℕ) (row : ℕ) (p : Growth) (a : ℕ) → extentOf p ≡ Until a → Sound F table n registry row p → (t : Tree) × Grew F table n registry row t a
 grew-of F table n registry row (grew t m) a e w = let i : m ≡ a = cc in (t, subst (λ (x : ℕ). Grew F table n registry row t x) i w)
 grew-of F table n registry row bad a e w = absurd (let z : _≡_ {A = ℕ} 0 1 = cc in omega arith)
 
@@ -301,12 +301,12 @@ pub record Going (d : ℕ) (table : List ℕ) (n : ℕ) (s : List ℕ) (first k 
   pub few : i ≤ count
   pub ready : EntriesBeforeChild table n first k c i here
   pub same :
-      standingAll (grows table n s (grow table n s d) c (chain table first (inForce c k i)) i (count - i) here)
-      ≡ standingAll (grows table n s (grow table n s d) c (chain table first (inForce c k 0)) 0 count row)
+      extentAll (grows table n s (grow table n s d) c (chain table first (inForce c k i)) i (count - i) here)
+      ≡ extentAll (grows table n s (grow table n s d) c (chain table first (inForce c k 0)) 0 count row)
 
 module _ (d : ℕ) (table : List ℕ) (n : ℕ) (s : List ℕ) (first k : ℕ) (c : Children) (count row : ℕ) where
-  abbrev All : Standing
-  All = standingAll (grows table n s (grow table n s d) c (chain table first (inForce c k 0)) 0 count row)
+  abbrev All : Extent
+  All = extentAll (grows table n s (grow table n s d) c (chain table first (inForce c k 0)) 0 count row)
 
   pub going-first : EntriesBeforeChild table n first k c 0 row → Going d table n s first k c count row 0 row
   going-first a = record { few = omega arith; ready = a; same = rw (sub-zero count) refl }
@@ -319,7 +319,7 @@ module _ (d : ℕ) (table : List ℕ) (n : ℕ) (s : List ℕ) (first k : ℕ) (
     unfolding grows
     going-all h = let z : count - i ≡ 0 = omega (arith, v .few) in rw z at (v .same)
 
-    module _ (turn : i < count) (g : Standing) (read : g ≡ standingOf (item table n s (isKey c i) (grow table n s d) (chain table first (inForce c k i)) here)) where
+    module _ (turn : i < count) (g : Extent) (read : g ≡ extentOf (item table n s (isKey c i) (grow table n s d) (chain table first (inForce c k i)) here)) where
       abbrev reg : List ℕ
       reg = chain table first (inForce c k i)
 
@@ -336,19 +336,19 @@ module _ (d : ℕ) (table : List ℕ) (n : ℕ) (s : List ℕ) (first k : ℕ) (
           ap (λ (x : ℕ). grows table n s (grow table n s d) c reg i x here) e
 
       pub going-broken : g ≡ Broken → Broken ≡ All
-      going-broken e = sym (ap standingAll one-more ∙ then-broken P rest (sym read ∙ e)) ∙ v .same
+      going-broken e = sym (ap extentAll one-more ∙ then-broken P rest (sym read ∙ e)) ∙ v .same
 
       pub going-next : (a : ℕ) → g ≡ Until a → Going d table n s first k c count row (i + 1) a
       going-next a e =
           let room : n ≤ lent table = v .ready .before .room in
-          let F : Tree → Type 0 = λ t. IfKey (isKey c i) (KeyFine s t) (Fine s d (length reg) t) in
+          let F : Tree → Type 0 = λ t. IfKey (isKey c i) (KeyObeys s t) (Obeys s d (length reg) t) in
           let w = grew-of F table n reg here P a (sym read ∙ e) (item-sound table n s room d (grow table n s d) (grow-sound table n s room d) (isKey c i) reg here) in
           record {
             few = omega arith;
             ready = ready-next F table n first k i here reg (w .0) a (w .1) c (v .ready);
             same =
-                ap (λ (l : List ℕ). standingAll (grows table n s (grow table n s d) c l (i + 1) (count - (i + 1)) a)) (chain-next table n first k i here c (v .ready))
-                ∙ sym (ap standingAll one-more ∙ then-until P rest a (sym read ∙ e))
+                ap (λ (l : List ℕ). extentAll (grows table n s (grow table n s d) c l (i + 1) (count - (i + 1)) a)) (chain-next table n first k i here c (v .ready))
+                ∙ sym (ap extentAll one-more ∙ then-until P rest a (sym read ∙ e))
                 ∙ v .same;
           }
 
@@ -369,8 +369,8 @@ module _ (d : ℕ) (table : List ℕ) (n : ℕ) (s : List ℕ) (first : ℕ) whe
   abbrev G : Grower
   G = grow table n s d
 
-  before-ran : (i count row : ℕ) → EntriesBeforeChild table n first 0 Entries i row → (t : Tree) (m : ℕ) → Grew (Fine s d (length (chain table first i))) table n (chain table first i) row t m
-      → (q : Growths) → RanAt table n first (i + 1) count m q → RanAt table n first i (suc count) row (before t q)
+  before-ran : (i count row : ℕ) → EntriesBeforeChild table n first 0 Entries i row → (t : Tree) (m : ℕ) → Grew (Obeys s d (length (chain table first i))) table n (chain table first i) row t m
+      → (q : Growths) → RanAt table n first (i + 1) count m q → RanAt table n first i (suc count) row (atFront t q)
   unfolding entries size many
   before-ran i count row a t m w badAll r = tt
   before-ran i count row a t m w (grewAll ts e) r =
@@ -382,11 +382,11 @@ module _ (d : ℕ) (table : List ℕ) (n : ℕ) (s : List ℕ) (first : ℕ) whe
         number = omega (arith, r .number);
       }
 
-  then-ran : (i count row : ℕ) → EntriesBeforeChild table n first 0 Entries i row → (p : Growth) → Sound (Fine s d (length (chain table first i))) table n (chain table first i) row p
+  then-ran : (i count row : ℕ) → EntriesBeforeChild table n first 0 Entries i row → (p : Growth) → Sound (Obeys s d (length (chain table first i))) table n (chain table first i) row p
       → (rest : ℕ → Growths) → ((m : ℕ) → EntriesBeforeChild table n first 0 Entries (i + 1) m → RanAt table n first (i + 1) count m (rest m)) → RanAt table n first i (suc count) row (andThen p rest)
   then-ran i count row a bad w rest h = tt
   then-ran i count row a (grew t m) w rest h =
-      before-ran i count row a t m w (rest m) (h m (ready-next (Fine s d (length (chain table first i))) table n first 0 i row (chain table first i) t m w Entries a))
+      before-ran i count row a t m w (rest m) (h m (ready-next (Obeys s d (length (chain table first i))) table n first 0 i row (chain table first i) t m w Entries a))
 
   all-ran : (count i row : ℕ) → EntriesBeforeChild table n first 0 Entries i row → RanAt table n first i count row (grows table n s G Entries (chain table first i) i count row)
   unfolding grows entries item size many
@@ -396,16 +396,16 @@ module _ (d : ℕ) (table : List ℕ) (n : ℕ) (s : List ℕ) (first : ℕ) whe
       (λ next. grows table n s G Entries (grown true (chain table first i) row) (i + 1) count next)
       (λ m b. subst (λ (l : List ℕ). RanAt table n first (i + 1) count m (grows table n s G Entries l (i + 1) count m)) (chain-next table n first 0 i row Entries a) (all-ran count (i + 1) m b))
 
-ran-of : (table : List ℕ) (n first count row : ℕ) (q : Growths) (e : ℕ) → standingAll q ≡ Until e → RanAt table n first 0 count row q → (ts : Trees) × (q ≡ grewAll ts e) × Ran table n first 0 count row ts e
+ran-of : (table : List ℕ) (n first count row : ℕ) (q : Growths) (e : ℕ) → extentAll q ≡ Until e → RanAt table n first 0 count row q → (ts : Trees) × (q ≡ grewAll ts e) × Ran table n first 0 count row ts e
 ran-of table n first count row (grewAll ts m) e h r = let i : m ≡ e = cc in (ts, ap (grewAll ts) i, subst (λ (x : ℕ). Ran table n first 0 count row ts x) i r)
 ran-of table n first count row badAll e h r = absurd (let z : _≡_ {A = ℕ} 0 1 = cc in omega arith)
 
-module _ (d : ℕ) (table : List ℕ) (n : ℕ) (s : List ℕ) (row count : ℕ) (room : n ≤ lent table) (few : n ≤ limit) (here : row ≤ n) (g : Standing)
-    (read : g ≡ standingAll (grows table n s (grow table n s d) Entries (chain table (firstIn row) (inForce Entries 0 0)) 0 count row)) where
+module _ (d : ℕ) (table : List ℕ) (n : ℕ) (s : List ℕ) (row count : ℕ) (room : n ≤ lent table) (few : n ≤ limit) (here : row ≤ n) (g : Extent)
+    (read : g ≡ extentAll (grows table n s (grow table n s d) Entries (chain table (firstIn row) (inForce Entries 0 0)) 0 count row)) where
   abbrev Q : Growths
   Q = grows table n s (grow table n s d) Entries [] 0 count row
 
-  there : g ≡ standingAll Q
+  there : g ≡ extentAll Q
   unfolding chain
   there = read
 
@@ -432,17 +432,17 @@ module _ (d : ℕ) (table : List ℕ) (n : ℕ) (s : List ℕ) (row count : ℕ)
         let t = ran e h in
         rw b (based-rows table row e count (entries (t .0) row []) (omega arith) (registry-of e h) (entries-each (t .0) row e count (t .2 .number) (t .2 .past)))
 
-  pub declared-broken : g ≡ Broken → Broken ≡ standingOf (overEntries (grow table n s d) (declarationOwn count) row Q)
+  pub declared-broken : g ≡ Broken → Broken ≡ extentOf (overEntries (grow table n s d) (declarationOwn count) row Q)
   declared-broken h = go Q (sym there ∙ h)
     where
-      go : (q : Growths) → standingAll q ≡ Broken → Broken ≡ standingOf (overEntries (grow table n s d) (declarationOwn count) row q)
+      go : (q : Growths) → extentAll q ≡ Broken → Broken ≡ extentOf (overEntries (grow table n s d) (declarationOwn count) row q)
       go (grewAll ts m) h = cc
       go badAll h = refl
 
-  pub declared-until : (e inner : ℕ) (r : Standing) → g ≡ Until e → inner ≡ baseOf row e count → r ≡ standingOf (grow table n s d (chain table (firstIn inner) count) e)
-      → r ≡ standingOf (overEntries (grow table n s d) (declarationOwn count) row Q)
+  pub declared-until : (e inner : ℕ) (r : Extent) → g ≡ Until e → inner ≡ baseOf row e count → r ≡ extentOf (grow table n s d (chain table (firstIn inner) count) e)
+      → r ≡ extentOf (overEntries (grow table n s d) (declarationOwn count) row Q)
   declared-until e inner r h b j =
       let t = ran e h in
       let i : chain table (firstIn inner) count ≡ entries (t .0) row [] = ap (λ (x : ℕ). chain table x count) (first-inner e inner h b) ∙ registry-of e h in
-      j ∙ ap (λ (l : List ℕ). standingOf (grow table n s d l e)) i ∙ sym (over-value (declarationOwn count) (t .0) (grow table n s d (entries (t .0) row []) e))
-      ∙ sym (ap (λ (q : Growths). standingOf (overEntries (grow table n s d) (declarationOwn count) row q)) (t .1))
+      j ∙ ap (λ (l : List ℕ). extentOf (grow table n s d l e)) i ∙ sym (over-value (declarationOwn count) (t .0) (grow table n s d (entries (t .0) row []) e))
+      ∙ sym (ap (λ (q : Growths). extentOf (overEntries (grow table n s d) (declarationOwn count) row q)) (t .1))

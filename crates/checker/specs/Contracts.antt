@@ -5,7 +5,7 @@ use mathlib.Core.Bool.{Bool, true, false, cond, _&&_}
 use mathlib.Core.List.{List}
 use lib.Dec.{ltb, eqb}
 use Rattle.rows.specs.Table.{ownOf, rowAt, lent, limit}
-use Rattle.registry.specs.Registry.{walk, Below, Based}
+use Rattle.registry.specs.Contracts.{walk, Below, Based}
 use Rattle.format.specs.declared.head.Children.{Children}
 use Rattle.format.specs.Value.{inForce}
 use Rattle.format.specs.Layout.{isEntry}
@@ -13,8 +13,8 @@ use Rattle.rules.specs.declared.shape.Shape.{Shape}
 use Rattle.rules.specs.declared.shape.Shape.the-variants.{Bad, Leaf, Refer, Hold, Declare, Whole, Damaged}
 use Rattle.rules.specs.Shape.{shapeOf}
 use Rattle.rules.specs.Grow.{Growth, grew, bad, Growths, grewAll, badAll}
-use Rattle.checker.specs.declared.standing.Standing.{Standing}
-use Rattle.checker.specs.declared.standing.Standing.the-variants.{Until, Broken}
+use Rattle.checker.specs.declared.extent.Extent.{Extent}
+use Rattle.checker.specs.declared.extent.Extent.the-variants.{Until, Broken}
 
 -- the table holds n rows, and each of the k entries in force stands before `row`
 pub record EntriesBefore (table : List ℕ) (n first k row : ℕ) : Type 0 where
@@ -34,29 +34,29 @@ pub record BasedForChild (table : List ℕ) (base k : ℕ) (c : Children) : Type
   pub walked : (isEntry c ≡ true → base < 4294967296)
 
 -- whether a row of that shape has no child and ends behind itself
-abbrev pub alone : Shape → ℕ → ℕ → Bool
-alone Bad row end = false
-alone Leaf row end = eqb end (row + 1)
-alone Refer row end = false
-alone (Hold holder) row end = false
-alone Declare row end = false
-alone Whole row end = false
-alone Damaged row end = false
+abbrev pub isAlone : Shape → ℕ → ℕ → Bool
+isAlone Bad row end = false
+isAlone Leaf row end = eqb end (row + 1)
+isAlone Refer row end = false
+isAlone (Hold holder) row end = false
+isAlone Declare row end = false
+isAlone Whole row end = false
+isAlone Damaged row end = false
 
 -- such a row stands at `row`
 unfoldable pub standsAlone : List ℕ → ℕ → List ℕ → ℕ → Bool
 standsAlone table n s row =
-    ltb row n && alone (shapeOf s (ownOf (rowAt table row))) row (rowAt table row .end)
+    ltb row n && isAlone (shapeOf s (ownOf (rowAt table row))) row (rowAt table row .end)
 
 -- how what grows stands: until the row behind it
-abbrev pub standingOf : Growth → Standing
-standingOf (grew t next) = Until next
-standingOf bad = Broken
+abbrev pub extentOf : Growth → Extent
+extentOf (grew t next) = Until next
+extentOf bad = Broken
 
-abbrev pub standingAll : Growths → Standing
-standingAll (grewAll ts next) = Until next
-standingAll badAll = Broken
+abbrev pub extentAll : Growths → Extent
+extentAll (grewAll ts next) = Until next
+extentAll badAll = Broken
 
-abbrev pub endingAt : ℕ → Standing → Standing
+abbrev pub endingAt : ℕ → Extent → Extent
 endingAt end (Until next) = cond (eqb next end) (Until next) Broken
 endingAt end Broken = Broken

@@ -1,8 +1,8 @@
 // Whether a table, wherever it came from, obeys the row rules.
 mod checked;
+mod extent;
 mod number;
 mod one;
-mod standing;
 mod value;
 
 pub use checked::Checked;
@@ -10,8 +10,8 @@ ghost use mathlib.Core.Path.{_≡_};
 ghost use Prim.Native.Nat.{_≤_};
 ghost use Rattle.format.specs.Answer.{depthLimit};
 ghost use Rattle.checker.specs.Checked.{checked};
+use extent::Extent;
 use rows::Row;
-use standing::Standing;
 
 // The same with positions down to `depth`.
 pub fn check_within(table: &[u32], n: usize, data: &[u8], depth: usize) -> Checked
@@ -32,13 +32,13 @@ pub fn check_within(table: &[u32], n: usize, data: &[u8], depth: usize) -> Check
     }
     let g = value::check_value(table, n, data, 0, depth + 1, 0, 0);
     match g {
-        Standing::Until { next } => {
+        Extent::Until { next } => {
             if next == n {
                 return Checked::Right { rows: n };
             }
             Checked::BadTable
         }
-        Standing::Broken => Checked::BadTable,
+        Extent::Broken => Checked::BadTable,
     }
 }
 

@@ -3,60 +3,60 @@ ghost use mathlib.Core.Path.{_≡_};
 ghost use Prim.Native.Nat.{_+_, _≤_, _<_};
 ghost use lib.ListN.{length};
 ghost use Rattle.rows.specs.Table.{ownOf, lent, limit};
-ghost use Rattle.registry.specs.Registry.{chain, Below, firstIn, Based};
+ghost use Rattle.registry.specs.Contracts.{chain, Below, firstIn, Based};
 ghost use Rattle.format.specs.Value.{inForeign, value, whole, wrong};
 ghost use Rattle.rules.specs.Grow.{keyRow, growKey, pointing, judged};
-ghost use Rattle.checker.specs.Contracts.{alone, standsAlone, standingOf, endingAt};
-use crate::standing::Standing;
+ghost use Rattle.checker.specs.Contracts.{isAlone, standsAlone, extentOf, endingAt};
+use crate::extent::Extent;
 use format::Refusal;
 use measure::Measured;
 use rows::Row;
 use rules::Shape;
 
 // A row ends where what it holds does.
-pub fn ends_at(end: u32, g: Standing) -> Standing
+pub fn ends_at(end: u32, g: Extent) -> Extent
     ensures { λ r. ⌜ r ≡ endingAt end g ⌝ }
 {
     match g {
-        Standing::Until { next } => {
+        Extent::Until { next } => {
             if next == rows::number(end) {
-                return Standing::Until { next };
+                return Extent::Until { next };
             }
-            Standing::Broken
+            Extent::Broken
         }
-        Standing::Broken => Standing::Broken,
+        Extent::Broken => Extent::Broken,
     }
 }
 
 // A record's key, by its words.
-fn key_row(s: &[u8], row: usize, w: Row) -> Standing
+fn key_row(s: &[u8], row: usize, w: Row) -> Extent
     requires { ⌜ row < limit ⌝ }
-    ensures { λ r. ⌜ r ≡ standingOf (keyRow (now (s .entry)) row w) ⌝ }
+    ensures { λ r. ⌜ r ≡ extentOf (keyRow (now (s .entry)) row w) ⌝ }
 {
     if w.kind != Row::KEY {
-        return Standing::Broken;
+        return Extent::Broken;
     }
     if rules::spelt(s, w) {
-        return ends_at(w.end, Standing::Until { next: row + 1 });
+        return ends_at(w.end, Extent::Until { next: row + 1 });
     }
-    Standing::Broken
+    Extent::Broken
 }
 
 // A record's key, at `row`.
-pub fn check_key(table: &[u32], n: usize, s: &[u8], row: usize) -> Standing
+pub fn check_key(table: &[u32], n: usize, s: &[u8], row: usize) -> Extent
     requires { ⌜ (n ≤ lent (now table)) × (n ≤ limit) ⌝ }
-    ensures { λ r. ⌜ r ≡ standingOf (growKey (now (table .entry)) n (now (s .entry)) row) ⌝ }
+    ensures { λ r. ⌜ r ≡ extentOf (growKey (now (table .entry)) n (now (s .entry)) row) ⌝ }
 {
     if row < n {
         return key_row(s, row, rows::row_at(table, row));
     }
-    Standing::Broken
+    Extent::Broken
 }
 
 // Whether a row of that shape, with that end, has no child and ends behind itself.
 fn is_alone(shape: Shape, row: usize, end: u32) -> bool
     requires { ⌜ row < limit ⌝ }
-    ensures { λ r. ⌜ r ≡ alone shape row end ⌝ }
+    ensures { λ r. ⌜ r ≡ isAlone shape row end ⌝ }
 {
     match shape {
         Shape::Bad => false,
@@ -82,36 +82,36 @@ pub fn stands_alone(table: &[u32], n: usize, s: &[u8], row: usize) -> bool
 }
 
 // A reference: its entry is in force, and stands at the row that it says.
-pub fn check_reference(table: &[u32], row: usize, base: usize, around: usize, w: Row) -> Standing
+pub fn check_reference(table: &[u32], row: usize, base: usize, around: usize, w: Row) -> Extent
     requires { ⌜ (row ≤ lent (now table)) × (row < limit) × Below (now table) (firstIn base) around row × Based (now table) base around ⌝ }
-    ensures { λ r. ⌜ r ≡ standingOf (pointing (chain (now (table .entry)) (firstIn base) around) row (ownOf w)) ⌝ }
+    ensures { λ r. ⌜ r ≡ extentOf (pointing (chain (now (table .entry)) (firstIn base) around) row (ownOf w)) ⌝ }
 {
     let number = rows::number(w.w0);
     if number < around {
         let entry = registry::entry_in(table, base, number, row);
         if rows::number(w.w1) == entry {
-            return Standing::Until { next: row + 1 };
+            return Extent::Until { next: row + 1 };
         }
-        return Standing::Broken;
+        return Extent::Broken;
     }
-    Standing::Broken
+    Extent::Broken
 }
 
 // The verdict of a damaged body is what reading it gave.
-fn verdict_is(row: usize, w: Row, why: Refusal, place: usize) -> Standing
+fn verdict_is(row: usize, w: Row, why: Refusal, place: usize) -> Extent
     requires { ⌜ row < limit ⌝ }
-    ensures { λ r. ⌜ r ≡ standingOf (judged row (ownOf w) (wrong why place)) ⌝ }
+    ensures { λ r. ⌜ r ≡ extentOf (judged row (ownOf w) (wrong why place)) ⌝ }
 {
     if w.w2 == why.number() {
-        return Standing::Until { next: row + 1 };
+        return Extent::Until { next: row + 1 };
     }
-    Standing::Broken
+    Extent::Broken
 }
 
 // A damaged foreign body: its bytes are measured where they stand.
-pub fn check_damaged(s: &[u8], row: usize, levels: usize, around: usize, w: Row) -> Standing
+pub fn check_damaged(s: &[u8], row: usize, levels: usize, around: usize, w: Row) -> Extent
     requires { ⌜ (row < limit) × (w .w0 + w .w1 ≤ length (now s)) ⌝ }
-    ensures { λ r. ⌜ r ≡ standingOf (judged row (ownOf w) (whole (w .w0 + w .w1) (value levels (now (s .entry)) (inForeign around) (w .w0) (w .w0 + w .w1)))) ⌝ }
+    ensures { λ r. ⌜ r ≡ extentOf (judged row (ownOf w) (whole (w .w0 + w .w1) (value levels (now (s .entry)) (inForeign around) (w .w0) (w .w0 + w .w1)))) ⌝ }
 {
     let place = rows::number(w.w0);
     let end = place + rows::number(w.w1);
@@ -119,7 +119,7 @@ pub fn check_damaged(s: &[u8], row: usize, levels: usize, around: usize, w: Row)
     match m {
         Measured::Right { rows: _, next } => {
             if next == end {
-                return Standing::Broken;
+                return Extent::Broken;
             }
             verdict_is(row, w, Refusal::Extra, next)
         }

@@ -4,18 +4,18 @@ ghost use mathlib.Core.List.{[]};
 ghost use Prim.Native.Nat.{_+_, _≤_, _<_};
 ghost use Rattle.rows.specs.Table.{ownOf, lent, limit};
 ghost use Rattle.rows.specs.Kinds.{declarationOwn};
-ghost use Rattle.registry.specs.Registry.{chain, firstIn, Based};
+ghost use Rattle.registry.specs.Contracts.{chain, firstIn, Based};
 ghost use Rattle.format.specs.declared.head.Children.the-variants.{Entries};
 ghost use Rattle.format.specs.Value.{inForce, isKey};
 ghost use Rattle.rules.specs.Shape.{shapeOf};
 ghost use Rattle.rules.specs.Grow.{item, grows, overEntries, byShape, grow};
-ghost use Rattle.checker.specs.Contracts.{EntriesBefore, EntriesBeforeChild, BasedForChild, standingOf, standingAll};
+ghost use Rattle.checker.specs.Contracts.{EntriesBefore, EntriesBeforeChild, BasedForChild, extentOf, extentAll};
+use crate::extent::Extent;
 use crate::one::check_damaged;
 use crate::one::check_key;
 use crate::one::check_reference;
 use crate::one::ends_at;
 use crate::one::stands_alone;
-use crate::standing::Standing;
 use format::Children;
 use rows::Row;
 use rules::Shape;
@@ -29,15 +29,15 @@ pub fn check_value(
     levels: usize,
     base: usize,
     around: usize,
-) -> Standing
+) -> Extent
     requires { ⌜ EntriesBefore (now table) n (firstIn base) around row × Based (now table) base around ⌝ }
-    ensures { λ r. ⌜ r ≡ standingOf (grow (now (table .entry)) n (now (s .entry)) levels (chain (now (table .entry)) (firstIn base) around) row) ⌝ }
+    ensures { λ r. ⌜ r ≡ extentOf (grow (now (table .entry)) n (now (s .entry)) levels (chain (now (table .entry)) (firstIn base) around) row) ⌝ }
 {
     if levels == 0 {
-        return Standing::Broken;
+        return Extent::Broken;
     }
     if n <= row {
-        return Standing::Broken;
+        return Extent::Broken;
     }
     let w = rows::row_at(table, row);
     let shape = rules::shape_of(s, w);
@@ -56,14 +56,14 @@ fn check_row(
     around: usize,
     w: Row,
     shape: Shape,
-) -> Standing
+) -> Extent
     requires { ⌜ EntriesBefore (now table) n (firstIn base) around row × Based (now table) base around × (row < n) ⌝ }
     requires { ⌜ shape ≡ shapeOf (now s) (ownOf w) ⌝ }
-    ensures { λ r. ⌜ r ≡ standingOf (byShape (now (table .entry)) n (now (s .entry)) (grow (now (table .entry)) n (now (s .entry)) levels) levels (chain (now (table .entry)) (firstIn base) around) row (ownOf w) shape) ⌝ }
+    ensures { λ r. ⌜ r ≡ extentOf (byShape (now (table .entry)) n (now (s .entry)) (grow (now (table .entry)) n (now (s .entry)) levels) levels (chain (now (table .entry)) (firstIn base) around) row (ownOf w) shape) ⌝ }
 {
     match shape {
-        Shape::Bad => Standing::Broken,
-        Shape::Leaf => Standing::Until { next: row + 1 },
+        Shape::Bad => Extent::Broken,
+        Shape::Leaf => Extent::Until { next: row + 1 },
         Shape::Refer => check_reference(table, row, base, around, w),
         Shape::Hold { holder } => {
             let count = holder.children(rows::number(w.w0));
@@ -94,17 +94,17 @@ fn check_declared(
     row: usize,
     levels: usize,
     count: usize,
-) -> Standing
+) -> Extent
     requires { ⌜ (n ≤ lent (now table)) × (n ≤ limit) × (row ≤ n) ⌝ }
-    ensures { λ r. ⌜ r ≡ standingOf (overEntries (grow (now (table .entry)) n (now (s .entry)) levels) (declarationOwn count) row (grows (now (table .entry)) n (now (s .entry)) (grow (now (table .entry)) n (now (s .entry)) levels) Entries [] 0 count row)) ⌝ }
+    ensures { λ r. ⌜ r ≡ extentOf (overEntries (grow (now (table .entry)) n (now (s .entry)) levels) (declarationOwn count) row (grows (now (table .entry)) n (now (s .entry)) (grow (now (table .entry)) n (now (s .entry)) levels) Entries [] 0 count row)) ⌝ }
 {
     let es = check_children(table, n, s, row, levels, row, 0, Children::Entries, count);
     match es {
-        Standing::Until { next } => {
+        Extent::Until { next } => {
             let inside = registry::base_of(row, next, count);
             check_value(table, n, s, next, levels, inside, count)
         }
-        Standing::Broken => Standing::Broken,
+        Extent::Broken => Extent::Broken,
     }
 }
 
@@ -119,16 +119,16 @@ fn check_child(
     around: usize,
     children: Children,
     i: usize,
-) -> Standing
+) -> Extent
     requires { ⌜ EntriesBefore (now table) n (firstIn base) (inForce children around i) row × Based (now table) base (inForce children around i) ⌝ }
-    ensures { λ r. ⌜ r ≡ standingOf (item (now (table .entry)) n (now (s .entry)) (isKey children i) (grow (now (table .entry)) n (now (s .entry)) levels) (chain (now (table .entry)) (firstIn base) (inForce children around i)) row) ⌝ }
+    ensures { λ r. ⌜ r ≡ extentOf (item (now (table .entry)) n (now (s .entry)) (isKey children i) (grow (now (table .entry)) n (now (s .entry)) levels) (chain (now (table .entry)) (firstIn base) (inForce children around i)) row) ⌝ }
 {
     if children.is_key(i) {
         return check_key(table, n, s, row);
     }
     if 0 < levels {
         if stands_alone(table, n, s, row) {
-            return Standing::Until { next: row + 1 };
+            return Extent::Until { next: row + 1 };
         }
     }
     check_value(table, n, s, row, levels, base, children.in_force(around, i))
@@ -145,23 +145,23 @@ fn check_children(
     around: usize,
     children: Children,
     count: usize,
-) -> Standing
+) -> Extent
     requires { ⌜ EntriesBeforeChild (now table) n (firstIn base) around children 0 row × BasedForChild (now table) base around children ⌝ }
-    ensures { λ r. ⌜ r ≡ standingAll (grows (now (table .entry)) n (now (s .entry)) (grow (now (table .entry)) n (now (s .entry)) levels) children (chain (now (table .entry)) (firstIn base) (inForce children around 0)) 0 count row) ⌝ }
+    ensures { λ r. ⌜ r ≡ extentAll (grows (now (table .entry)) n (now (s .entry)) (grow (now (table .entry)) n (now (s .entry)) levels) children (chain (now (table .entry)) (firstIn base) (inForce children around 0)) 0 count row) ⌝ }
 {
     let mut i = 0;
     let mut here = row;
     while i < count {
         let g = check_child(table, n, s, here, levels, base, around, children, i);
         match g {
-            Standing::Until { next } => {
+            Extent::Until { next } => {
                 here = next;
                 i += 1;
             }
-            Standing::Broken => {
-                return Standing::Broken;
+            Extent::Broken => {
+                return Extent::Broken;
             }
         }
     }
-    Standing::Until { next: here }
+    Extent::Until { next: here }
 }

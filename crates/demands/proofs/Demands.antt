@@ -23,7 +23,7 @@ use Rattle.format.specs.Starred.{starred}
 use Rattle.format.proofs.Values.{document-next}
 use Rattle.rules.specs.Shape.{named}
 use Rattle.rules.specs.Grow.{rulesHold}
-use Rattle.rules.specs.Fine.{Stands}
+use Rattle.rules.specs.Obeys.{Stands}
 use Rattle.rules.proofs.Exact as exact
 use Rattle.checker.specs.declared.checked.Checked.the-variants.{Right}
 use Rattle.checker.specs.Checked.{checked}
@@ -34,13 +34,13 @@ use Rattle.walker.specs.Walk.{standing, startOf, stepOn, stepAlong}
 use Rattle.walker.proofs.Along.{reached}
 use Rattle.resolve.specs.Resolve.{resolve}
 use Rattle.payload.specs.Payload.{payloadAt}
-use Rattle.walks.specs.Spots.{spot, nil, treeOf, treeWalk, treeEnd, tableWalk, tableEnd, AllInTable, ownPart, Way}
+use Rattle.walks.specs.Spots.{spot, nil, spotTree, treeWalk, treeEnd, tableWalk, tableEnd, AllInTable, ownPart, Way}
 use Rattle.walks.proofs.Walked as walked
 use Rattle.walks.proofs.Meets as meets
 use Rattle.walks.proofs.Resolves as resolves
 use Rattle.walks.proofs.Along as along
 use Rattle.encode.specs.Encode.{hasBytes}
-use Rattle.spell.specs.Own.{Inside}
+use Rattle.spell.specs.Contracts.{Inside}
 use Rattle.writer.specs.declared.written.Written.{Written}
 use Rattle.writer.specs.declared.written.Written.the-variants.{Done, BadTable, TooLarge, NoRoom}
 use Rattle.writer.specs.Written.{documentOf, written, left, outputAfter}
@@ -183,7 +183,7 @@ module _ (depth : ℕ) (table : List ℕ) (n : ℕ) (s : List ℕ) where
     on-from-along at row bound e = (reached table n at row bound e .end, along.on-none depth table n s t st at row bound e)
 
     -- the payload of a row that a walk comes to is the tree's
-    pub payload-right : (ws : List Way) → payloadAt table (tableEnd table n ws (startOf n) .row) s ≡ ownPart (treeOf (treeEnd ws (spot t 0 nil) nil))
+    pub payload-right : (ws : List Way) → payloadAt table (tableEnd table n ws (startOf n) .row) s ≡ ownPart (spotTree (treeEnd ws (spot t 0 nil) nil))
     payload-right = meets.payload-right depth table n s t st
 
     -- "every payload lies in the data": of every row, a damaged body's too

@@ -13,9 +13,10 @@ use Rattle.format.specs.Tree.{Tree, size}
 use Rattle.format.specs.Value.{document, right}
 use Rattle.format.specs.Answer.{answer, tableAfter}
 use Rattle.rules.specs.Grow.{rulesHold}
-use Rattle.rules.specs.Fine.{Stands}
+use Rattle.rules.specs.Obeys.{Stands}
 use Rattle.rules.proofs.Exact.{yes-stands, laid-out, stands-yes, accepted, read-stands}
-use Rattle.encode.specs.Encode.{encode, placed}
+use Rattle.encode.specs.Encode.{encode}
+use Rattle.encode.proofs.Placed.{placed}
 use Rattle.encode.specs.Said.{said}
 use Rattle.encode.proofs.Worded.{Worded}
 use Rattle.encode.proofs.Alike as written

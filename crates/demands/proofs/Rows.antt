@@ -8,16 +8,17 @@ use native.Mathlib.Omega.{arith}
 use lib.ListN.{length, getD, take, drop}
 use Rattle.wide.proofs.Numbers.{either}
 use Rattle.rows.specs.declared.row.Row.{Row}
-use Rattle.rows.specs.Table.{wordsPerRow, Own, rowOf, rowAt}
+use Rattle.rows.specs.Table.{wordsPerRow, Own, rowOf, rowAt, aimed}
 use Rattle.format.specs.declared.head.Children.{Children}
 use Rattle.format.specs.declared.head.Children.the-variants.{Entries}
 use Rattle.format.specs.Tree.{Tree, leaf, refer, hold, declare, foreign, damaged, Trees, none, more, size, sizes}
 use Rattle.format.specs.Value.{childrenOf, inForeign, isKey}
-use Rattle.format.specs.Layout.{layout, layouts, grown, entries, inBody, aimed}
+use Rattle.format.specs.Layout.{layout, layouts, grown, entries, inBody}
 use Rattle.format.proofs.Layouts.{length-layout, length-layouts, topRow, top-at}
-use Rattle.rules.specs.Fine.{KeyFine, IfKey, Fine, Fines}
+use Rattle.rules.specs.Obeys.{KeyObeys, IfKey, Obeys, ObeyAll}
 use Rattle.rules.proofs.Regrow.{behind, rest-at}
-use Rattle.encode.specs.Encode.{headOf, payload, moved, encode, encodes, placed, placeds}
+use Rattle.encode.specs.Encode.{headOf, payloadOf, moved, encode, encodes}
+use Rattle.encode.proofs.Placed.{placed, placeds}
 use Rattle.encode.specs.Said.{one, said, saids}
 use Rattle.encode.proofs.Places.{moved-again}
 use Rattle.writer.proofs.Trees.{Bare, hold-bare, declare-bare, foreign-bare, refer-bare}
@@ -55,7 +56,7 @@ module _ (s s′ : List ℕ) where
       record { end = e; own = refl; bytes = rw b }
 
   -- with them, at another place
-  one-same : (o : Own) (end place : ℕ) → one (moved (moved o place) 0) (payload s′ (moved o place)) ≡ one (moved o 0) (payload s o) → SameRow s (rowOf o end) s′ (rowOf (moved o place) end)
+  one-same : (o : Own) (end place : ℕ) → one (moved (moved o place) 0) (payloadOf s′ (moved o place)) ≡ one (moved o 0) (payloadOf s o) → SameRow s (rowOf o end) s′ (rowOf (moved o place) end)
   one-same o end place q = record { end = refl; own = sym (moved-again o place 0); bytes = cc }
 
   -- ---- trees in two tables
@@ -88,18 +89,18 @@ module _ (s s′ : List ℕ) where
     unfolding size placed said
     leaf-same o at row registry rest rest′ q h h′ = top-same (leaf o) (leaf (moved o (at + length (headOf o 0)))) row registry rest rest′ h h′ (one-same o (row + 1) (at + length (headOf o 0)) q) (none-left row)
 
-    key-same : (t : Tree) → KeyFine s t → TreeSame t
+    key-same : (t : Tree) → KeyObeys s t → TreeSame t
     unfolding size placed said
     key-same t f = rw (f .is) (leaf-same (f .own))
 
-    item-same : (b : Bool) (t : Tree) (d k : ℕ) → (Fine s d k t → TreeSame t) → IfKey b (KeyFine s t) (Fine s d k t) → TreeSame t
+    item-same : (b : Bool) (t : Tree) (d k : ℕ) → (Obeys s d k t → TreeSame t) → IfKey b (KeyObeys s t) (Obeys s d k t) → TreeSame t
     item-same true t d k g f = key-same t f
     item-same false t d k g f = g f
 
     mutual
-      unfolding layout size placed said Fine
+      unfolding layout size placed said Obeys
 
-      pub tree-same : (t : Tree) (d k : ℕ) → Fine s d k t → TreeSame t
+      pub tree-same : (t : Tree) (d k : ℕ) → Obeys s d k t → TreeSame t
       tree-same (leaf o) d k f at row registry rest rest′ q h h′ = leaf-same o at row registry rest rest′ q h h′
       tree-same (refer o) d k f at row registry rest rest′ q h h′ =
           let e : ℕ = getD registry (o .w0) 0 in
@@ -149,7 +150,7 @@ module _ (s s′ : List ℕ) where
           (tree-same t (d - 1) (inForeign k) (f .2) p (row + 1) (inBody registry) rest rest′ c (rest-at table row registry rest (foreign o t) h) (rest-at table′ row registry rest′ (foreign o (placed s t p)) h′)))
       tree-same (damaged o) d k f at row registry rest rest′ q h h′ = top-same (damaged o) (damaged (moved o (at + length (headOf o 0)))) row registry rest rest′ h h′ (one-same o (row + 1) (at + length (headOf o 0)) q) (none-left row)
 
-      trees-same : (ts : Trees) (d : ℕ) (c : Children) (k i : ℕ) → Fines s d c k i ts → (at row : ℕ) (grows : Bool) (registry rest rest′ : List ℕ) → saids s′ (placeds s ts at) ≡ saids s ts
+      trees-same : (ts : Trees) (d : ℕ) (c : Children) (k i : ℕ) → ObeyAll s d c k i ts → (at row : ℕ) (grows : Bool) (registry rest rest′ : List ℕ) → saids s′ (placeds s ts at) ≡ saids s ts
           → drop (wordsPerRow * row) table ≡ layouts ts grows row registry ++ rest → drop (wordsPerRow * row) table′ ≡ layouts (placeds s ts at) grows row registry ++ rest′ → Same row (row + sizes ts)
       trees-same none d c k i f at row grows registry rest rest′ q h h′ = λ i l u. absurd (omega arith)
       trees-same (more t ts) d c k i f at row grows registry rest rest′ q h h′ =

@@ -6,22 +6,22 @@ use Prim.Native.Nat.{ℕ, suc, _+_, _-_, _*_, _≤_, _<_}
 use native.Mathlib.Omega.{arith}
 use lib.ListN.{getD, take, drop}
 use Rattle.rows.specs.declared.row.Row.{Row}
-use Rattle.rows.specs.Table.{wordsPerRow, Own, ownOf, rowAt}
+use Rattle.rows.specs.Table.{wordsPerRow, Own, ownOf, rowAt, aimed}
 use Rattle.format.specs.declared.head.Holder.{Holder}
 use Rattle.format.specs.declared.head.Children.{Children}
 use Rattle.format.specs.declared.head.Children.the-variants.{Entries}
 use Rattle.format.specs.Tree.{Tree, leaf, refer, hold, declare, foreign, damaged, Trees, none, more, many, size, sizes}
 use Rattle.format.specs.Value.{childCount, childrenOf, inForeign, isKey}
-use Rattle.format.specs.Layout.{layout, layouts, grown, entries, inBody, aimed}
+use Rattle.format.specs.Layout.{layout, layouts, grown, entries, inBody}
 use Rattle.format.proofs.Layouts.{length-layout, length-layouts, size-pos, ownAt, topRow, top-at}
 use Rattle.rules.specs.declared.shape.Shape.{Shape}
 use Rattle.rules.specs.declared.shape.Shape.the-variants as shape
 use Rattle.rules.specs.Shape.{named, shapeFor, shapeOf}
-use Rattle.rules.specs.Fine.{KeyFine, IfKey, Fine, Fines, Stands}
+use Rattle.rules.specs.Obeys.{KeyObeys, IfKey, Obeys, ObeyAll, Stands}
 use Rattle.rules.proofs.Exact.{laid-out}
 use Rattle.rules.proofs.Regrow.{behind, rest-at}
 use Rattle.rules.proofs.Says.{aimed-shape}
-use Rattle.encode.specs.Encode.{hasBytes, payload, moved}
+use Rattle.encode.specs.Encode.{hasBytes, payloadOf, moved}
 use Rattle.encode.specs.Said.{Said, one, over, under, said, saids}
 use Rattle.encode.specs.Said as says
 use Rattle.encode.proofs.Places.{moved-named, moved-bare}
@@ -32,8 +32,8 @@ use Rattle.demands.specs.Alike.{SameRow, SameRows}
 -- ---- a right tree's own row tells which tree it is
 
 -- the shape of its row
-unfoldable shapeBy : (s : List ℕ) (d k : ℕ) (t : Tree) → Fine s d k t → Shape
-unfolding Fine
+unfoldable shapeBy : (s : List ℕ) (d k : ℕ) (t : Tree) → Obeys s d k t → Shape
+unfolding Obeys
 shapeBy s d k (leaf o) f = shape.Leaf
 shapeBy s d k (refer o) f = shape.Refer
 shapeBy s d k (hold o ts) f = shape.Hold (f .1 .0)
@@ -44,8 +44,8 @@ shapeBy s d k (damaged o) f = shape.Damaged
 shape-is : (s : List ℕ) (o : Own) (x : Shape) → shapeOf s o ≡ x → (x ≡ shape.Bad → ⊥) → shapeFor (named o) ≡ x
 shape-is s o x e f = told-of s o x e f .is
 
-fine-shape : (s : List ℕ) (d k : ℕ) (R : List ℕ) (t : Tree) (f : Fine s d k t) → shapeFor (named (ownAt t R)) ≡ shapeBy s d k t f
-unfolding Fine shapeBy
+fine-shape : (s : List ℕ) (d k : ℕ) (R : List ℕ) (t : Tree) (f : Obeys s d k t) → shapeFor (named (ownAt t R)) ≡ shapeBy s d k t f
+unfolding Obeys shapeBy
 fine-shape s d k R (leaf o) f = shape-is s o shape.Leaf (f .1) (λ z. let y : _≡_ {A = ℕ} 0 1 = cc in omega arith)
 fine-shape s d k R (refer o) f =
     let e : ℕ = getD R (o .w0) 0 in
@@ -65,7 +65,7 @@ On shape.Declare P = (o : Own) (es : Trees) (t : Tree) → P (declare o es t)
 On shape.Whole P = (o : Own) (t : Tree) → P (foreign o t)
 On shape.Damaged P = (o : Own) → P (damaged o)
 
-by-shape : (s : List ℕ) (d k : ℕ) (P : Tree → Type 0) (t : Tree) (f : Fine s d k t) → On (shapeBy s d k t f) P → P t
+by-shape : (s : List ℕ) (d k : ℕ) (P : Tree → Type 0) (t : Tree) (f : Obeys s d k t) → On (shapeBy s d k t f) P → P t
 unfolding shapeBy
 by-shape s d k P (leaf o) f g = g o
 by-shape s d k P (refer o) f g = g o
@@ -86,7 +86,7 @@ module _ (s s′ : List ℕ) where
       sym (moved-bare (ownOf w) 0 b) ∙ e .own ∙ moved-bare (ownOf w′) 0 q
 
   -- a row with no child
-  one-says : (w w′ : Row) → SameRow s w s′ w′ → one (moved (ownOf w) 0) (payload s (ownOf w)) ≡ one (moved (ownOf w′) 0) (payload s′ (ownOf w′))
+  one-says : (w w′ : Row) → SameRow s w s′ w′ → one (moved (ownOf w) 0) (payloadOf s (ownOf w)) ≡ one (moved (ownOf w′) 0) (payloadOf s′ (ownOf w′))
   one-says w w′ e = ap₂ one (e .own) (e .bytes)
 
   module _ (table table′ : List ℕ) where
@@ -99,7 +99,7 @@ module _ (s s′ : List ℕ) where
       top-same e =
           subst (λ (v : Row). SameRow s v s′ (topRow u row R′)) (top-at table t row R rest h) (subst (SameRow s (rowAt table row) s′) (top-at table′ u row R′ rest′ h′) e)
 
-      same-shape : (d k d′ k′ : ℕ) (f : Fine s d k t) (f′ : Fine s′ d′ k′ u) → SameRow s (topRow t row R) s′ (topRow u row R′) → shapeBy s d k t f ≡ shapeBy s′ d′ k′ u f′
+      same-shape : (d k d′ k′ : ℕ) (f : Obeys s d k t) (f′ : Obeys s′ d′ k′ u) → SameRow s (topRow t row R) s′ (topRow u row R′) → shapeBy s d k t f ≡ shapeBy s′ d′ k′ u f′
       same-shape d k d′ k′ f f′ w = sym (fine-shape s d k R t f) ∙ ap shapeFor (named-same (ownAt t R) (ownAt u R′) (w .own)) ∙ fine-shape s′ d′ k′ R′ u f′
 
     abbrev Says : Tree → Tree → Type 0
@@ -115,23 +115,23 @@ module _ (s s′ : List ℕ) where
     leaf-says o p row R R′ rest rest′ h h′ e =
         (one-says (topRow (leaf o) row R) (topRow (leaf p) row R′) (top-same (leaf o) (leaf p) row R R′ rest rest′ h h′ (here (leaf o) row e)), refl)
 
-    key-says : (t u : Tree) → KeyFine s t → KeyFine s′ u → Says t u
+    key-says : (t u : Tree) → KeyObeys s t → KeyObeys s′ u → Says t u
     key-says t u f f′ = rw (f .is, f′ .is) (leaf-says (f .own) (f′ .own))
 
-    item-says : (b : Bool) (t u : Tree) (d k d′ k′ : ℕ) → (Fine s d k t → Fine s′ d′ k′ u → Says t u) → IfKey b (KeyFine s t) (Fine s d k t) → IfKey b (KeyFine s′ u) (Fine s′ d′ k′ u) → Says t u
+    item-says : (b : Bool) (t u : Tree) (d k d′ k′ : ℕ) → (Obeys s d k t → Obeys s′ d′ k′ u → Says t u) → IfKey b (KeyObeys s t) (Obeys s d k t) → IfKey b (KeyObeys s′ u) (Obeys s′ d′ k′ u) → Says t u
     item-says true t u d k d′ k′ g f f′ = key-says t u f f′
     item-says false t u d k d′ k′ g f f′ = g f f′
 
     -- what u says, whose own row is the same
-    abbrev Beside : (t : Tree) (d k : ℕ) → Fine s d k t → (d′ k′ row : ℕ) → List ℕ → List ℕ → List ℕ → Tree → Type 0
-    Beside t d k f d′ k′ row R R′ rest′ u = (f′ : Fine s′ d′ k′ u) → drop (wordsPerRow * row) table′ ≡ layout u row R′ ++ rest′ → shapeBy s d k t f ≡ shapeBy s′ d′ k′ u f′
+    abbrev Beside : (t : Tree) (d k : ℕ) → Obeys s d k t → (d′ k′ row : ℕ) → List ℕ → List ℕ → List ℕ → Tree → Type 0
+    Beside t d k f d′ k′ row R R′ rest′ u = (f′ : Obeys s′ d′ k′ u) → drop (wordsPerRow * row) table′ ≡ layout u row R′ ++ rest′ → shapeBy s d k t f ≡ shapeBy s′ d′ k′ u f′
         → SameRow s (topRow t row R) s′ (topRow u row R′) → (said s t ≡ said s′ u) × (size t ≡ size u)
 
-    abbrev Besides : (t : Tree) (d k : ℕ) → Fine s d k t → ℕ → ℕ → Type 0
+    abbrev Besides : (t : Tree) (d k : ℕ) → Obeys s d k t → ℕ → ℕ → Type 0
     Besides t d k f d′ k′ = (row : ℕ) (R R′ rest rest′ : List ℕ) → drop (wordsPerRow * row) table ≡ layout t row R ++ rest → Same (row + 1) (row + size t)
         → On (shapeBy s d k t f) (Beside t d k f d′ k′ row R R′ rest′)
 
-    tree-says : (t u : Tree) (d k d′ k′ : ℕ) (f : Fine s d k t) → Fine s′ d′ k′ u → Besides t d k f d′ k′ → Says t u
+    tree-says : (t u : Tree) (d k d′ k′ : ℕ) (f : Obeys s d k t) → Obeys s′ d′ k′ u → Besides t d k f d′ k′ → Says t u
     tree-says t u d k d′ k′ f f′ go row R R′ rest rest′ h h′ e =
         let w = top-same t u row R R′ rest rest′ h h′ (here t row e) in
         let q = same-shape t u row R R′ rest rest′ h h′ d k d′ k′ f f′ w in
@@ -139,10 +139,10 @@ module _ (s s′ : List ℕ) where
         by-shape s′ d′ k′ P u f′ (subst (λ (x : Shape). On x P) q (go row R R′ rest rest′ h (λ i l g. e i (omega arith) g))) f′ h′ q w
 
     mutual
-      unfolding layout size said Fine many shapeBy
+      unfolding layout size said Obeys many shapeBy
 
       -- by t's shape, where the rows behind are the same
-      tree-beside : (t : Tree) (d k : ℕ) (f : Fine s d k t) (d′ k′ : ℕ) → Besides t d k f d′ k′
+      tree-beside : (t : Tree) (d k : ℕ) (f : Obeys s d k t) (d′ k′ : ℕ) → Besides t d k f d′ k′
       tree-beside (leaf o) d k f d′ k′ row R R′ rest rest′ h e = λ p f′ h′ q w. (one-says (topRow (leaf o) row R) (topRow (leaf p) row R′) w, refl)
       tree-beside (refer o) d k f d′ k′ row R R′ rest rest′ h e =
           λ p f′ h′ q w.
@@ -158,7 +158,7 @@ module _ (s s′ : List ℕ) where
           let y : f′ .1 .0 ≡ g = cc in
           let m : many ts ≡ many us = f .1 .2 ∙ ap₂ (λ (z : Own) (v : Holder). childCount v (z .w0)) x (sym y) ∙ sym (f′ .1 .2) in
           let a =
-          trees-say ts us (d - 1) k (d′ - 1) k′ (childrenOf g) 0 (f .1 .3) (subst (λ (v : Holder). Fines s′ (d′ - 1) (childrenOf v) k′ 0 us) y (f′ .1 .3)) (row + 1) false R R′ rest rest′
+          trees-say ts us (d - 1) k (d′ - 1) k′ (childrenOf g) 0 (f .1 .3) (subst (λ (v : Holder). ObeyAll s′ (d′ - 1) (childrenOf v) k′ 0 us) y (f′ .1 .3)) (row + 1) false R R′ rest rest′
           (rest-at table row R rest (hold o ts) h) (rest-at table′ row R′ rest′ (hold p us) h′) m (λ i l g. e i l (omega arith)) in
           (ap₂ over x (a .0), ap (λ (z : ℕ). 1 + z) (a .1))
       tree-beside (declare o es t) d k f d′ k′ row R R′ rest rest′ h e =
@@ -191,7 +191,7 @@ module _ (s s′ : List ℕ) where
           (ap₂ (λ (y : Own) (v : Said). over y (says.more v says.none)) x (z .0), ap (λ (y : ℕ). 1 + y) (z .1))
       tree-beside (damaged o) d k f d′ k′ row R R′ rest rest′ h e = λ p f′ h′ q w. (one-says (topRow (damaged o) row R) (topRow (damaged p) row R′) w, refl)
 
-      trees-say : (ts us : Trees) (d k d′ k′ : ℕ) (c : Children) (i : ℕ) → Fines s d c k i ts → Fines s′ d′ c k′ i us → (row : ℕ) (grows : Bool) (R R′ rest rest′ : List ℕ)
+      trees-say : (ts us : Trees) (d k d′ k′ : ℕ) (c : Children) (i : ℕ) → ObeyAll s d c k i ts → ObeyAll s′ d′ c k′ i us → (row : ℕ) (grows : Bool) (R R′ rest rest′ : List ℕ)
           → drop (wordsPerRow * row) table ≡ layouts ts grows row R ++ rest → drop (wordsPerRow * row) table′ ≡ layouts us grows row R′ ++ rest′ → many ts ≡ many us → Same row (row + sizes ts)
           → (saids s ts ≡ saids s′ us) × (sizes ts ≡ sizes us)
       trees-say none none d k d′ k′ c i f f′ row grows R R′ rest rest′ h h′ m e = (refl, refl)

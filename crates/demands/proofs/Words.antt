@@ -17,7 +17,7 @@ use Rattle.format.specs.Tree.{Tree, leaf, refer, hold, declare, foreign, damage
 use Rattle.format.specs.Value.{childCount, childrenOf, inForeign, isKey}
 use Rattle.format.specs.Layout.{isEntry, layout, layouts, grown, entries, inBody}
 use Rattle.format.proofs.Layouts.{no-entry, in-foreign-few, length-layout, length-layouts, top-at, sizes-many}
-use Rattle.rules.specs.Fine.{KeyFine, IfKey, after, Fine, Fines}
+use Rattle.rules.specs.Obeys.{KeyObeys, IfKey, after, Obeys, ObeyAll}
 use Rattle.rules.proofs.Regrow.{behind, rest-at}
 use Rattle.encode.proofs.Worded.{Fit, Worded, Wordeds}
 
@@ -45,18 +45,18 @@ module _ (table s : List ℕ) (n : ℕ) (few : n ≤ limit) (fit : (i : ℕ) →
   unfolding rowAt
   row-fits row = record { kind-fits = fit _; w0-fits = fit _; w1-fits = fit _; w2-fits = fit _; w3-fits = fit _ }
 
-  key-worded : (t : Tree) (row : ℕ) (registry rest : List ℕ) → KeyFine s t → drop (wordsPerRow * row) table ≡ layout t row registry ++ rest → Worded t
+  key-worded : (t : Tree) (row : ℕ) (registry rest : List ℕ) → KeyObeys s t → drop (wordsPerRow * row) table ≡ layout t row registry ++ rest → Worded t
   key-worded t row registry rest f h = rw (f .is) (subst (λ (w : Row). Fit (ownOf w)) (top-at table (leaf (f .own)) row registry rest (rw (f .is) at h)) (row-fits row))
 
-  item-worded : (b : Bool) (t : Tree) (d k row : ℕ) (registry rest : List ℕ) → (Fine s d k t → Worded t) → IfKey b (KeyFine s t) (Fine s d k t)
+  item-worded : (b : Bool) (t : Tree) (d k row : ℕ) (registry rest : List ℕ) → (Obeys s d k t → Worded t) → IfKey b (KeyObeys s t) (Obeys s d k t)
       → drop (wordsPerRow * row) table ≡ layout t row registry ++ rest → Worded t
   item-worded true t d k row registry rest g f h = key-worded t row registry rest f h
   item-worded false t d k row registry rest g f h = g f
 
   mutual
-    unfolding layout size Fine many
+    unfolding layout size Obeys many
 
-    pub tree-worded : (t : Tree) (d k row : ℕ) (registry rest : List ℕ) → k ≤ limit → Fine s d k t → drop (wordsPerRow * row) table ≡ layout t row registry ++ rest → row + size t ≤ n → Worded t
+    pub tree-worded : (t : Tree) (d k row : ℕ) (registry rest : List ℕ) → k ≤ limit → Obeys s d k t → drop (wordsPerRow * row) table ≡ layout t row registry ++ rest → row + size t ≤ n → Worded t
     tree-worded (leaf o) d k row registry rest l f h b = subst (λ (w : Row). Fit (ownOf w)) (top-at table (leaf o) row registry rest h) (row-fits row)
     tree-worded (refer o) d k row registry rest l f h b = omega (arith, f .3)
     tree-worded (hold o ts) d k row registry rest l f h b =
@@ -80,7 +80,7 @@ module _ (table s : List ℕ) (n : ℕ) (few : n ≤ limit) (fit : (i : ℕ) →
         tree-worded t (d - 1) (inForeign k) (row + 1) (inBody registry) rest (omega (arith, in-foreign-few k)) (f .2) (rest-at table row registry rest (foreign o t) h) (omega arith)
     tree-worded (damaged o) d k row registry rest l f h b = tt
 
-    trees-worded : (ts : Trees) (d : ℕ) (c : Children) (k i row : ℕ) (grows : Bool) (registry rest : List ℕ) → k ≤ limit → (isEntry c ≡ true → k + many ts ≤ limit) → Fines s d c k i ts
+    trees-worded : (ts : Trees) (d : ℕ) (c : Children) (k i row : ℕ) (grows : Bool) (registry rest : List ℕ) → k ≤ limit → (isEntry c ≡ true → k + many ts ≤ limit) → ObeyAll s d c k i ts
         → drop (wordsPerRow * row) table ≡ layouts ts grows row registry ++ rest → row + sizes ts ≤ n → Wordeds ts
     trees-worded none d c k i row grows registry rest l g f h b = tt
     trees-worded (more t ts) d c k i row grows registry rest l g f h b =

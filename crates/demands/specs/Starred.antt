@@ -30,15 +30,15 @@ outcome c =
       again = documentOf depthLimit (tableAfter depthLimit (c .bytes) (c .table)) (rowsRead (answer depthLimit (c .bytes) (c .table))) (c .bytes);
     }
 
-abbrev pub same : List ℕ → List ℕ → Bool
-same [] [] = true
-same [] (y ∷ ys) = false
-same (x ∷ xs) [] = false
-same (x ∷ xs) (y ∷ ys) = eqb x y && same xs ys
+abbrev pub sameBytes : List ℕ → List ℕ → Bool
+sameBytes [] [] = true
+sameBytes [] (y ∷ ys) = false
+sameBytes (x ∷ xs) [] = false
+sameBytes (x ∷ xs) (y ∷ ys) = eqb x y && sameBytes xs ys
 
 -- "`18 40` is kind 4 and is written `7f`"; every other starred document that is accepted is written as it is
 abbrev pub shortest : List ℕ → List ℕ
-shortest bytes = cond (same bytes (0x18 ∷ 0x40 ∷ [])) (0x7f ∷ []) bytes
+shortest bytes = cond (sameBytes bytes (0x18 ∷ 0x40 ∷ [])) (0x7f ∷ []) bytes
 
 abbrev pub writtenAgain : Answer → List ℕ → List ℕ
 writtenAgain (Accepted rows) bytes = shortest bytes

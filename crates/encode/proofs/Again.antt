@@ -21,7 +21,7 @@ use Rattle.format.specs.declared.head.Children.{Children}
 use Rattle.format.specs.declared.head.Children.the-variants.{Entries}
 use Rattle.format.specs.Head.{headAt, keyAt}
 use Rattle.format.specs.Tree.{Tree, leaf, refer, hold, declare, foreign, damaged, Trees, none, more, many}
-use Rattle.format.specs.Value.{Reading, right, wrong, ran, kindOf, childCount, childrenOf, keyed, inTurn, child, inForce, ahead, follow, run, framed, inForeign, value, ended, whole, isKey}
+use Rattle.format.specs.Value.{Reading, right, wrong, ran, kindOf, childCount, childrenOf, keyed, inTurn, child, inForce, ahead, follow, readings, framed, inForeign, value, ended, whole, isKey}
 use Rattle.format.proofs.Steps as clauses
 use Rattle.format.proofs.Layouts.{around-force}
 use Rattle.format.proofs.Values.{ReadAt, value-read}
@@ -30,17 +30,19 @@ use Rattle.rules.specs.declared.kind.Kind.the-variants.{Damaged}
 use Rattle.rules.specs.declared.shape.Shape.{Shape}
 use Rattle.rules.specs.declared.shape.Shape.the-variants as shape
 use Rattle.rules.specs.Shape.{named, fits, shapeFor, shapeIf, shapeOf, keyFits}
-use Rattle.rules.specs.Fine.{Spoilt, KeyFine, IfKey, Fine, Fines}
+use Rattle.rules.specs.Obeys.{Spoilt, KeyObeys, IfKey, Obeys, ObeyAll}
 use Rattle.rules.proofs.Says.{names, key-named, key-kind, key-spelt, refer-own, hold-own, declare-own, declare-some, foreign-own, damaged-own, damaged-inside}
 use Rattle.rules.proofs.Judged.{spelt-span}
 use Rattle.rules.proofs.Read.{force-next}
-use Rattle.encode.specs.Encode.{holderCount, headFor, headOf, hasBytes, movedIf, encode, encodes, placed, placeds}
-use Rattle.encode.proofs.Moved.{told, value-moved}
+use Rattle.encode.specs.Encode.{holderCount, headFor, headOf, hasBytes, encode, encodes}
+use Rattle.encode.proofs.Places.{movedIf}
+use Rattle.encode.proofs.Placed.{placed, placeds}
+use Rattle.encode.proofs.Elsewhere.{told, value-moved}
 use Rattle.encode.proofs.Fronts.{Stand, stand-first, stand-second, array-front, record-front, map-front, reference-front, declaration-front, foreign-front}
 use Rattle.encode.proofs.Leaves.{payload-few, payload-there, key-back}
 use Rattle.encode.proofs.Back.{spelling, span-placed, part-long, leaf-back}
 use Rattle.encode.proofs.Worded.{Worded, Wordeds}
-use Rattle.format.specs.Refusal.{numberOf as refusalNumber}
+use Rattle.format.specs.Refusal.{refusalNumber}
 
 -- ---- shapes and the kinds behind them
 
@@ -172,7 +174,7 @@ key-again s s′ at stop short o f h =
 
 -- how a tree that stands in s′ is read
 abbrev Again : List ℕ → List ℕ → Tree → Type 0
-Again s s′ t = (d k at stop : ℕ) → Fine s d k t → Worded t → Stand s′ at stop (encode s t) → value d s′ k at stop ≡ right (placed s t at) (at + length (encode s t))
+Again s s′ t = (d k at stop : ℕ) → Obeys s d k t → Worded t → Stand s′ at stop (encode s t) → value d s′ k at stop ≡ right (placed s t at) (at + length (encode s t))
 
 suc-pred : (d : ℕ) → 0 < d → suc (d - 1) ≡ d
 suc-pred zero h = absurd (omega arith)
@@ -181,12 +183,12 @@ suc-pred (suc d) h = omega arith
 at-depth : (d : ℕ) (s : List ℕ) (k at stop : ℕ) (x : Reading) → 0 < d → value (suc (d - 1)) s k at stop ≡ x → value d s k at stop ≡ x
 at-depth d s k at stop x h e = ap (λ (m : ℕ). value m s k at stop) (sym (suc-pred d h)) ∙ e
 
-child-again : (s s′ : List ℕ) → length s′ ≤ limit → (t : Tree) → Again s s′ t → (d : ℕ) (c : Children) (k i at stop : ℕ) → IfKey (isKey c i) (KeyFine s t) (Fine s d (inForce c k i) t) → Worded t
+child-again : (s s′ : List ℕ) → length s′ ≤ limit → (t : Tree) → Again s s′ t → (d : ℕ) (c : Children) (k i at stop : ℕ) → IfKey (isKey c i) (KeyObeys s t) (Obeys s d (inForce c k i) t) → Worded t
     → Stand s′ at stop (encode s t) → child c (value d s′) s′ k i at stop ≡ right (placed s t at) (at + length (encode s t))
 unfolding child
 child-again s s′ short t own d c k i at stop f w h = of (isKey c i) f
   where
-    of : (b : Bool) → IfKey b (KeyFine s t) (Fine s d (inForce c k i) t) → inTurn b (value d s′) s′ (inForce c k i) at stop ≡ right (placed s t at) (at + length (encode s t))
+    of : (b : Bool) → IfKey b (KeyObeys s t) (Obeys s d (inForce c k i) t) → inTurn b (value d s′) s′ (inForce c k i) at stop ≡ right (placed s t at) (at + length (encode s t))
     of true g = rw (g .is) (key-again s s′ at stop short (g .own) (g .fits) (rw (g .is) at h))
     of false g = own d (inForce c k i) at stop g w h
 
@@ -200,25 +202,25 @@ holder-front s at stop n few Map g = map-front s at stop n few g
 
 -- how trees one behind the other are read
 abbrev Agains : List ℕ → List ℕ → Trees → Type 0
-Agains s s′ ts = (d : ℕ) (c : Children) (k i at stop : ℕ) → Fines s d c (inForce c k i) i ts → Wordeds ts → Stand s′ at stop (encodes s ts)
-    → run (value d s′) c s′ k i (many ts) at stop ≡ ran (placeds s ts at) (at + length (encodes s ts))
+Agains s s′ ts = (d : ℕ) (c : Children) (k i at stop : ℕ) → ObeyAll s d c (inForce c k i) i ts → Wordeds ts → Stand s′ at stop (encodes s ts)
+    → readings (value d s′) c s′ k i (many ts) at stop ≡ ran (placeds s ts at) (at + length (encodes s ts))
 
 module _ (s s′ : List ℕ) (short : length s′ ≤ limit) where
   hold-again : (n : ℕ) (ts : Trees) → Agains s s′ ts → (d k at stop : ℕ) → n ≤ limit → Wordeds ts → (h : Holder) → many ts ≡ childCount h n
-      → Fines s d (childrenOf h) k 0 ts → Stand s′ at stop (form (holderCount h) n ++ encodes s ts)
+      → ObeyAll s d (childrenOf h) k 0 ts → Stand s′ at stop (form (holderCount h) n ++ encodes s ts)
       → value (suc d) s′ k at stop ≡ right (hold (holderOwn (kindOf h) n) (placeds s ts (at + length (form (holderCount h) n)))) (at + length (form (holderCount h) n ++ encodes s ts))
   hold-again n ts own d k at stop few w h num f g =
       let E : List ℕ = encodes s ts in
       let H : List ℕ = form (holderCount h) n in
       let p : ℕ = at + length H in
-      let r : run (value d s′) (childrenOf h) s′ k 0 (childCount h n) p stop ≡ ran (placeds s ts p) (p + length E) =
-      ap (λ (i : ℕ). run (value d s′) (childrenOf h) s′ k 0 i p stop) (sym num)
-      ∙ own d (childrenOf h) k 0 p stop (subst (λ (i : ℕ). Fines s d (childrenOf h) i 0 ts) (sym (around-force h k 0)) f) w (stand-second s′ at stop H E g) in
+      let r : readings (value d s′) (childrenOf h) s′ k 0 (childCount h n) p stop ≡ ran (placeds s ts p) (p + length E) =
+      ap (λ (i : ℕ). readings (value d s′) (childrenOf h) s′ k 0 i p stop) (sym num)
+      ∙ own d (childrenOf h) k 0 p stop (subst (λ (i : ℕ). ObeyAll s d (childrenOf h) i 0 ts) (sym (around-force h k 0)) f) w (stand-second s′ at stop H E g) in
       let next : p + length E ≡ at + length (H ++ E) = omega (arith, length-append H E) in
       clauses.value-held d s′ k at stop (headAt s′ at stop) refl h n p (holder-front s′ at stop n few h (stand-first s′ at stop H E g)) (placeds s ts p) (p + length E) r
       ∙ ap (right (hold (holderOwn (kindOf h) n) (placeds s ts p))) next
 
-  body-again : (t : Tree) → Again s s′ t → (d k at stop : ℕ) → Worded t → Fine s d (inForeign k) t → Stand s′ at stop (form foreignLength (length (encode s t)) ++ encode s t)
+  body-again : (t : Tree) → Again s s′ t → (d k at stop : ℕ) → Worded t → Obeys s d (inForeign k) t → Stand s′ at stop (form foreignLength (length (encode s t)) ++ encode s t)
       → value (suc d) s′ k at stop
       ≡ right (foreign foreignOwn (placed s t (at + length (form foreignLength (length (encode s t)))))) (at + length (form foreignLength (length (encode s t)) ++ encode s t))
   body-again t own d k at stop w f g =
@@ -234,7 +236,7 @@ module _ (s s′ : List ℕ) (short : length s′ ≤ limit) where
       ∙ ap (right (foreign foreignOwn (placed s t p))) next
 
   declare-again : (n : ℕ) (es : Trees) (t : Tree) → Agains s s′ es → Again s s′ t → (d k at stop : ℕ) → 0 < n → n ≤ limit → Wordeds es → Worded t → many es ≡ n
-      → Fines s d Entries 0 0 es → Fine s d n t → Stand s′ at stop (form declarationCount n ++ (encodes s es ++ encode s t))
+      → ObeyAll s d Entries 0 0 es → Obeys s d n t → Stand s′ at stop (form declarationCount n ++ (encodes s es ++ encode s t))
       → value (suc d) s′ k at stop
       ≡ right (declare (declarationOwn n) (placeds s es (at + length (form declarationCount n))) (placed s t (at + length (form declarationCount n) + length (encodes s es))))
       (at + length (form declarationCount n ++ (encodes s es ++ encode s t)))
@@ -246,8 +248,8 @@ module _ (s s′ : List ℕ) (short : length s′ ≤ limit) where
       let g′ = stand-second s′ at stop F (E ++ U) g in
       let head : headAt s′ at stop ≡ stand.Declare n p =
       declaration-front s′ at stop n few (stand-first s′ at stop F (E ++ U) g) ∙ rw (ne-eqb n 0 (λ z. omega arith)) in
-      let r : run (value d s′) Entries s′ 0 0 n p stop ≡ ran (placeds s es p) (p + length E) =
-      ap (λ (i : ℕ). run (value d s′) Entries s′ 0 0 i p stop) (sym num) ∙ owns d Entries 0 0 p stop f w (stand-first s′ p stop E U g′) in
+      let r : readings (value d s′) Entries s′ 0 0 n p stop ≡ ran (placeds s es p) (p + length E) =
+      ap (λ (i : ℕ). readings (value d s′) Entries s′ 0 0 i p stop) (sym num) ∙ owns d Entries 0 0 p stop f w (stand-first s′ p stop E U g′) in
       let u = own d n (p + length E) stop f′ w′ (stand-second s′ p stop E U g′) in
       let next : p + length E + length U ≡ at + length (F ++ (E ++ U)) = omega (arith, length-append F (E ++ U), length-append E U) in
       clauses.value-declared d s′ k at stop (headAt s′ at stop) refl n p head (placeds s es p) (p + length E) r (placed s t (p + length E)) (p + length E + length U) u
@@ -256,7 +258,7 @@ module _ (s s′ : List ℕ) (short : length s′ ≤ limit) where
   -- ---- all trees
 
   mutual
-    unfolding Fine encode placed many run
+    unfolding Obeys encode placed many readings
 
     pub again : (t : Tree) → Again s s′ t
     again (leaf o) d k at stop f w h =
@@ -303,6 +305,6 @@ module _ (s s′ : List ℕ) (short : length s′ ≤ limit) where
         let X : List ℕ = encode s t in
         let Y : List ℕ = encodes s ts in
         let a = child-again s s′ short t (λ d k at stop f w h. again t d k at stop f w h) d c k i at stop (f .0) (w .0) (stand-first s′ at stop X Y h) in
-        let b = agains ts d c k (i + 1) (at + length X) stop (subst (λ (j : ℕ). Fines s d c j (i + 1) ts) (force-next c k i) (f .1)) (w .1) (stand-second s′ at stop X Y h) in
+        let b = agains ts d c k (i + 1) (at + length X) stop (subst (λ (j : ℕ). ObeyAll s d c j (i + 1) ts) (force-next c k i) (f .1)) (w .1) (stand-second s′ at stop X Y h) in
         let next : at + length X + length Y ≡ at + length (X ++ Y) = omega (arith, length-append X Y) in
-        ap (λ (y : Reading). follow y (λ n. run (value d s′) c s′ k (i + 1) (many ts) n stop)) a ∙ ap (ahead (placed s t at)) b ∙ ap (ran (more (placed s t at) (placeds s ts (at + length X)))) next
+        ap (λ (y : Reading). follow y (λ n. readings (value d s′) c s′ k (i + 1) (many ts) n stop)) a ∙ ap (ahead (placed s t at)) b ∙ ap (ran (more (placed s t at) (placeds s ts (at + length X)))) next

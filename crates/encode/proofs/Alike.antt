@@ -19,10 +19,11 @@ use Rattle.rules.specs.declared.kind.Kind.{Kind}
 use Rattle.rules.specs.declared.kind.Kind.the-variants.{Constant, Small, Signed, Unsigned, Float, Text, Holds, Binary, Char, Reference, Declaration, Whole, Damaged, Key, Unknown}
 use Rattle.rules.specs.declared.shape.Shape.the-variants as shape
 use Rattle.rules.specs.Shape.{named, blank, inside, oneOf, span, fits, shapeOf}
-use Rattle.rules.specs.Fine.{KeyFine, IfKey, Fine, Fines}
+use Rattle.rules.specs.Obeys.{KeyObeys, IfKey, Obeys, ObeyAll}
 use Rattle.rules.proofs.Judged.{inside-within, span-within}
 use Rattle.rules.proofs.Says.{spelt-within, key-inside, damaged-inside}
-use Rattle.encode.specs.Encode.{headOf, hasBytes, payload, moved, encode, encodes, placed, placeds}
+use Rattle.encode.specs.Encode.{headOf, hasBytes, payloadOf, moved, encode, encodes}
+use Rattle.encode.proofs.Placed.{placed, placeds}
 use Rattle.encode.specs.Said.{Said, one, over, under, none, more, said, saids}
 use Rattle.encode.proofs.Fronts.{Stand, stand-first, stand-second}
 use Rattle.encode.proofs.Leaves.{payload-there}
@@ -61,8 +62,8 @@ leaf-inside s o e b = fits-inside s o (named o) b (told-of s o shape.Leaf e (λ 
 -- ---- a row with no child
 
 -- its payload stands behind its head, and is the same
-one-like : (s s′ : List ℕ) (at stop : ℕ) (o : Own) → (hasBytes (named o) ≡ true → o .w0 + o .w1 ≤ length s) → Stand s′ at stop (headOf o 0 ++ payload s o)
-    → one (moved (moved o (at + length (headOf o 0))) 0) (payload s′ (moved o (at + length (headOf o 0)))) ≡ one (moved o 0) (payload s o)
+one-like : (s s′ : List ℕ) (at stop : ℕ) (o : Own) → (hasBytes (named o) ≡ true → o .w0 + o .w1 ≤ length s) → Stand s′ at stop (headOf o 0 ++ payloadOf s o)
+    → one (moved (moved o (at + length (headOf o 0))) 0) (payloadOf s′ (moved o (at + length (headOf o 0)))) ≡ one (moved o 0) (payloadOf s o)
 one-like s s′ at stop o f h = ap₂ one (moved-again o p 0) (moved-payload o p s′ ∙ of (hasBytes (named o)) f h)
   where
     p : ℕ
@@ -75,22 +76,22 @@ one-like s s′ at stop o f h = ap₂ one (moved-again o p 0) (moved-payload o p
     of true g h = payload-there s′ at stop (headOf o 0) P (o .w1) h (part-long s (o .w0) (o .w1) (g refl))
     of false g h = refl
 
-key-like : (s s′ : List ℕ) (at stop : ℕ) (t : Tree) → KeyFine s t → Stand s′ at stop (encode s t) → said s′ (placed s t at) ≡ said s t
+key-like : (s s′ : List ℕ) (at stop : ℕ) (t : Tree) → KeyObeys s t → Stand s′ at stop (encode s t) → said s′ (placed s t at) ≡ said s t
 unfolding encode placed said
 key-like s s′ at stop t f h = rw (f .is) (one-like s s′ at stop (f .own) (λ _. key-inside s (f .own) (f .fits)) (rw (f .is) at h))
 
 -- ---- trees
 
-item-like : (s s′ : List ℕ) (at stop : ℕ) (t : Tree) (d k : ℕ) → (Fine s d k t → said s′ (placed s t at) ≡ said s t) → (b : Bool) → IfKey b (KeyFine s t) (Fine s d k t) → Stand s′ at stop (encode s t)
+item-like : (s s′ : List ℕ) (at stop : ℕ) (t : Tree) (d k : ℕ) → (Obeys s d k t → said s′ (placed s t at) ≡ said s t) → (b : Bool) → IfKey b (KeyObeys s t) (Obeys s d k t) → Stand s′ at stop (encode s t)
     → said s′ (placed s t at) ≡ said s t
 item-like s s′ at stop t d k f true g h = key-like s s′ at stop t g h
 item-like s s′ at stop t d k f false g h = f g
 
 module _ (s s′ : List ℕ) where
   mutual
-    unfolding Fine encode placed said
+    unfolding Obeys encode placed said
 
-    pub alike : (t : Tree) (d k at stop : ℕ) → Fine s d k t → Stand s′ at stop (encode s t) → said s′ (placed s t at) ≡ said s t
+    pub alike : (t : Tree) (d k at stop : ℕ) → Obeys s d k t → Stand s′ at stop (encode s t) → said s′ (placed s t at) ≡ said s t
     alike (leaf o) d k at stop f h = one-like s s′ at stop o (leaf-inside s o (f .1)) h
     alike (refer o) d k at stop f h = refl
     alike (hold o ts) d k at stop f h =
@@ -106,7 +107,7 @@ module _ (s s′ : List ℕ) where
         ap (λ (x : Said). over o (more x none)) (alike t (d - 1) (inForeign k) (at + length H) stop (f .2) (stand-second s′ at stop H (encode s t) h))
     alike (damaged o) d k at stop f h = one-like s s′ at stop o (λ _. damaged-inside s o (f .1)) h
 
-    pub alikes : (ts : Trees) (d : ℕ) (c : Children) (k i at stop : ℕ) → Fines s d c k i ts → Stand s′ at stop (encodes s ts) → saids s′ (placeds s ts at) ≡ saids s ts
+    pub alikes : (ts : Trees) (d : ℕ) (c : Children) (k i at stop : ℕ) → ObeyAll s d c k i ts → Stand s′ at stop (encodes s ts) → saids s′ (placeds s ts at) ≡ saids s ts
     alikes trees.none d c k i at stop f h = refl
     alikes (trees.more t ts) d c k i at stop f h =
         ap₂ more (item-like s s′ at stop t d k (λ g. alike t d k at stop g (stand-first s′ at stop (encode s t) (encodes s ts) h)) (isKey c i) (f .0) (stand-first s′ at stop (encode s t) (encodes s ts) h))
@@ -117,7 +118,7 @@ module _ (s s′ : List ℕ) where
 whole-stand : (s : List ℕ) → Stand s 0 (length s) s
 whole-stand s = record { rest = []; bytes = sym (append-nil s); room = omega arith; inside = omega arith }
 
-module _ (depth : ℕ) (s : List ℕ) (t : Tree) (fine : Fine s (suc depth) 0 t) (worded : Worded t) (few : length (encode s t) ≤ limit) where
+module _ (depth : ℕ) (s : List ℕ) (t : Tree) (fine : Obeys s (suc depth) 0 t) (worded : Worded t) (few : length (encode s t) ≤ limit) where
   -- what is written reads back, with its new places
   pub reads-back : document depth (encode s t) ≡ right (placed s t 0) (length (encode s t))
   unfolding document

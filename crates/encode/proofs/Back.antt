@@ -10,7 +10,7 @@ use lib.Dec.{leb, eqb, lit≤}
 use borrow.Author.Tests.{eqb-true, leb-true}
 use Rattle.lists.proofs.Tests.{and-first, and-second}
 use Rattle.wide.specs.declared.wide.Wide.{Wide}
-use Rattle.wide.specs.Words.{whole, valueOf, words, wideOf}
+use Rattle.wide.specs.Words.{wideEnd, valueOf, words, wideOf}
 use Rattle.wide.specs.Number.{bytesOf}
 use Rattle.wide.specs.Body.{sizeAt, rank}
 use Rattle.wide.specs.Family.{hasNumber, byteOf, numberOf, form}
@@ -39,7 +39,8 @@ use Rattle.rules.specs.declared.shape.Shape.the-variants as shape
 use Rattle.rules.specs.Shape.{blank, oneOf, span, spelt, fits, shapeFor}
 use Rattle.rules.proofs.Says.{Names, count-own, constant-own, span-own, spelt-within}
 use Rattle.rules.proofs.Judged.{span-within, spelt-span}
-use Rattle.encode.specs.Encode.{placeIn, floatMarker, headFor, hasBytes, movedIf}
+use Rattle.encode.specs.Encode.{indexIn, floatMarker, headFor, hasBytes}
+use Rattle.encode.proofs.Places.{movedIf}
 use Rattle.encode.proofs.Worded.{Fit}
 use Rattle.encode.proofs.Fronts.{Stand, no-alone}
 use Rattle.encode.proofs.Leaves.{constant-back, text-back, binary-back, float-back, char-back, small-back, signed-back, unsigned-back, body-there}
@@ -72,11 +73,11 @@ not-false true e = sym e
 not-false false e = refl
 
 -- what a text or a key spells
-pub record Spelling (s : List ℕ) (o : Own) : Type 0 where
+pub record SpeltRight (s : List ℕ) (o : Own) : Type 0 where
   pub long : length (take (o .w1) (drop (o .w0) s)) ≡ o .w1
   pub said : textOf (take (o .w1) (drop (o .w0) s)) ≡ WellFormed
 
-pub spelling : (s : List ℕ) (o : Own) → spelt s o ≡ true → Spelling s o
+pub spelling : (s : List ℕ) (o : Own) → spelt s o ≡ true → SpeltRight s o
 unfolding spelt
 spelling s o e =
     record {
@@ -91,7 +92,7 @@ span-placed s o kind place m e = ap (λ (p : Own). withPlace p place) (sym (span
 -- the float sizes and their markers
 float-marker : (n : ℕ) → oneOf floatSizes n ≡ true → (3 ≤ floatMarker n) × (floatMarker n < 8) × (floatSize (floatMarker n) ≡ n)
 unfolding floatMarker
-float-marker n e = by-size (λ m. (3 ≤ 3 + placeIn floatSizes m) × (3 + placeIn floatSizes m < 8) × (floatSize (3 + placeIn floatSizes m) ≡ m)) n e (lit≤ tt, lit≤ tt, refl) (lit≤ tt, lit≤ tt, refl) (lit≤ tt, lit≤ tt, refl) (lit≤ tt, lit≤ tt, refl) (lit≤ tt, lit≤ tt, refl)
+float-marker n e = by-size (λ m. (3 ≤ 3 + indexIn floatSizes m) × (3 + indexIn floatSizes m < 8) × (floatSize (3 + indexIn floatSizes m) ≡ m)) n e (lit≤ tt, lit≤ tt, refl) (lit≤ tt, lit≤ tt, refl) (lit≤ tt, lit≤ tt, refl) (lit≤ tt, lit≤ tt, refl) (lit≤ tt, lit≤ tt, refl)
 
 module _ (s s′ : List ℕ) (d k at stop : ℕ) (short : length s′ ≤ limit) (o : Own) (w : Fit o) where
   abbrev pub B : Kind → List ℕ
@@ -107,7 +108,7 @@ module _ (s s′ : List ℕ) (d k at stop : ℕ) (short : length s′ ≤ limit)
   bounded : Words (words (o .w0) (o .w1) (o .w2) (o .w3))
   bounded = record { f0 = w .w0-fits; f1 = w .w1-fits; f2 = w .w2-fits; f3 = w .w3-fits }
 
-  low : N < whole
+  low : N < wideEnd
   unfolding N
   low = value-lt (words (o .w0) (o .w1) (o .w2) (o .w3)) bounded
 

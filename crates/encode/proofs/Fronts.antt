@@ -9,7 +9,7 @@ use lib.ListN.{length, getD, take, drop, length-append}
 use lib.Dec.{lit≤}
 use lib.Seq.{getD-drop, drop-drop, drop-append-seam, take-append-seam}
 use borrow.Author.Tests.{le-leb, lt-ltb, le-ltb, ltb-true}
-use Rattle.wide.specs.Words.{whole}
+use Rattle.wide.specs.Words.{wideEnd}
 use Rattle.wide.specs.Family.{Run, behind, hasNumber, byteOf, Family, is, short, coded, unmarkedForm, form}
 use Rattle.wide.specs.Members.{run, headed, textLength, binaryLength, arrayCount, recordCount, mapCount, keyLength, referenceNumber, declarationCount, foreignLength}
 use Rattle.wide.proofs.Families.{Sound, round-trip, marked-form}
@@ -20,7 +20,7 @@ use Rattle.format.specs.declared.head.Count.{Count}
 use Rattle.format.specs.declared.head.Count.the-variants.{Is}
 use Rattle.format.specs.declared.head.Holder.the-variants.{Array, Record, Map}
 use Rattle.format.specs.declared.head.Head.{Head}
-use Rattle.format.specs.Head.{Marker, text, array, entries, map, binary, special, reference, markerOf, part, countOf, countAt, spelling, spellingOf, textHead, binaryHead, holderHead, referHead, declareHead, foreignHead, secondHead, stands, headAt, keyAt}
+use Rattle.format.specs.Head.{Marker, text, array, entries, map, binary, special, reference, markerOf, between, countOf, countAt, spelling, spellingOf, textHead, binaryHead, holderHead, referHead, declareHead, foreignHead, secondHead, headBy, headAt, keyAt}
 use Rattle.format.proofs.Markers.{is-text, is-array, is-entries, is-map, is-reference}
 
 pub take-front : (xs ys : List ℕ) (m : ℕ) → length xs ≤ m → take m (xs ++ ys) ≡ xs ++ take (m - length xs) ys
@@ -30,11 +30,11 @@ take-front (x ∷ xs) ys (suc m) h =
     let e : suc m - suc (length xs) ≡ m - length xs = omega arith in
     ap (λ (l : List ℕ). x ∷ l) (take-front xs ys m (omega arith) ∙ ap (λ (k : ℕ). xs ++ take k ys) (sym e))
 
-limit-low : 16777216 ≤ whole
-unfolding whole
+limit-low : 16777216 ≤ wideEnd
+unfolding wideEnd
 limit-low = lit≤ tt
 
-pub limit-whole : (n : ℕ) → n ≤ limit → n < whole
+pub limit-whole : (n : ℕ) → n ≤ limit → n < wideEnd
 limit-whole n h = omega (arith, limit-low)
 
 -- a form has a byte
@@ -80,18 +80,18 @@ module _ (s : List ℕ) (at stop : ℕ) where
   unfolding countAt
   count-form F good n few h =
       let L : List ℕ = take (stop - at - length (form F n)) (h .rest) in
-      let e : part s at stop ≡ form F n ++ L = ap (take (stop - at)) (h .bytes) ∙ take-front (form F n) (h .rest) (stop - at) (omega (arith, h .room)) in
+      let e : between s at stop ≡ form F n ++ L = ap (take (stop - at)) (h .bytes) ∙ take-front (form F n) (h .rest) (stop - at) (omega (arith, h .room)) in
       ap (λ (l : List ℕ). countOf at (coded F l)) e ∙ ap (countOf at) (round-trip F good n (limit-whole n few) L) ∙ rw (le-leb n limit few)
 
   -- by the first byte
-  pub head-by : (b : ℕ) (bs : List ℕ) (m : Marker) → Stand s at stop (b ∷ bs) → markerOf b ≡ m → headAt s at stop ≡ stands s at stop b m
+  pub head-by : (b : ℕ) (bs : List ℕ) (m : Marker) → Stand s at stop (b ∷ bs) → markerOf b ≡ m → headAt s at stop ≡ headBy s at stop b m
   unfolding headAt
   head-by b bs m h e =
       rw (lt-ltb at stop (omega (arith, h .room)), stand-byte b bs h, e)
 
   -- the head of a family whose forms begin with a marker of their own
   family-head : (F : Family) → Sound F → (n : ℕ) → n ≤ limit → (m : Marker) → markerOf (getD (form F n) 0 0) ≡ m → (H : Count → Head)
-      → ((b : ℕ) → stands s at stop b m ≡ H (countAt F s at stop)) → Stand s at stop (form F n) → headAt s at stop ≡ H (Is n (at + length (form F n)))
+      → ((b : ℕ) → headBy s at stop b m ≡ H (countAt F s at stop)) → Stand s at stop (form F n) → headAt s at stop ≡ H (Is n (at + length (form F n)))
   family-head F good n few m e H same h = of (form F n) refl
     where
       of : (bs : List ℕ) → form F n ≡ bs → headAt s at stop ≡ H (Is n (at + length (form F n)))
@@ -103,8 +103,8 @@ module _ (s : List ℕ) (at stop : ℕ) where
 
 pub alone-byte : (r : Run) (n : ℕ) → r .low + r .count ≤ 256 → hasNumber r n ≡ true → (r .low ≤ byteOf r n) × (byteOf r n < r .low + r .count)
 alone-byte r n h e =
-    let l : behind whole (r .from) n < r .count = ltb-true (behind whole (r .from) n) (r .count) e in
-    let q : byteOf r n ≡ r .low + behind whole (r .from) n = mod-eq-of-lt (omega arith) in
+    let l : behind wideEnd (r .from) n < r .count = ltb-true (behind wideEnd (r .from) n) (r .count) e in
+    let q : byteOf r n ≡ r .low + behind wideEnd (r .from) n = mod-eq-of-lt (omega arith) in
     (omega arith, omega arith)
 
 first-headed : (r : Run) (b : ℕ) (bs : List ℕ) (m : Marker) (n : ℕ) → r .low + r .count ≤ 256 → ((x : ℕ) → r .low ≤ x → x < r .low + r .count → markerOf x ≡ m) → markerOf b ≡ m
@@ -117,33 +117,33 @@ first-headed r b bs m n h f e =
 
 -- a family with no byte that is a number alone
 pub no-alone : (F : Family) → Sound F → (n : ℕ) → F .alone .count ≡ 0 → form F n ≡ F .marker ++ unmarkedForm F n
-no-alone F good n e = marked-form F good n (le-ltb (behind whole (F .alone .from) n) (F .alone .count) (omega arith))
+no-alone F good n e = marked-form F good n (le-ltb (behind wideEnd (F .alone .from) n) (F .alone .count) (omega arith))
 
 -- ---- each family
 
 module _ (s : List ℕ) (at stop n : ℕ) (few : n ≤ limit) where
   pub text-front : Stand s at stop (form textLength n) → headAt s at stop ≡ textHead at (spelling s (at + length (form textLength n)) n stop)
-  unfolding stands markerOf
+  unfolding headBy markerOf
   text-front = family-head s at stop textLength (sound-headers .text) n few text (first-headed (run 0x80 32 1) 0x08 [] text n (lit≤ tt) (λ x a b. is-text x a b) refl) (λ c. textHead at (spellingOf s stop c)) (λ b. refl)
 
   pub binary-front : Stand s at stop (form binaryLength n) → headAt s at stop ≡ binaryHead at stop (Is n (at + length (form binaryLength n)))
-  unfolding stands markerOf
+  unfolding headBy markerOf
   binary-front = family-head s at stop binaryLength (sound-headers .binary) n few binary (first-headed (run 0 0 0) 0x0c [] binary n (lit≤ tt) (λ x a b. absurd (omega arith)) refl) (binaryHead at stop) (λ b. refl)
 
   pub array-front : Stand s at stop (form arrayCount n) → headAt s at stop ≡ holderHead Array at (Is n (at + length (form arrayCount n)))
-  unfolding stands markerOf
+  unfolding headBy markerOf
   array-front = family-head s at stop arrayCount (sound-headers .array) n few array (first-headed (run 0xa0 16 1) 0x09 [] array n (lit≤ tt) (λ x a b. is-array x a b) refl) (holderHead Array at) (λ b. refl)
 
   pub record-front : Stand s at stop (form recordCount n) → headAt s at stop ≡ holderHead Record at (Is n (at + length (form recordCount n)))
-  unfolding stands markerOf
+  unfolding headBy markerOf
   record-front = family-head s at stop recordCount (sound-headers .entries) n few entries (first-headed (run 0xb0 8 1) 0x0a [] entries n (lit≤ tt) (λ x a b. is-entries x a b) refl) (holderHead Record at) (λ b. refl)
 
   pub map-front : Stand s at stop (form mapCount n) → headAt s at stop ≡ holderHead Map at (Is n (at + length (form mapCount n)))
-  unfolding stands markerOf
+  unfolding headBy markerOf
   map-front = family-head s at stop mapCount (sound-headers .map) n few map (first-headed (run 0xb8 8 1) 0x0b [] map n (lit≤ tt) (λ x a b. is-map x a b) refl) (holderHead Map at) (λ b. refl)
 
   pub reference-front : Stand s at stop (form referenceNumber n) → headAt s at stop ≡ referHead at (Is n (at + length (form referenceNumber n)))
-  unfolding stands markerOf
+  unfolding headBy markerOf
   reference-front = family-head s at stop referenceNumber (sound-headers .reference) n few reference (first-headed (run 0xc1 62 0) 0xff [] reference n (lit≤ tt) (λ x a b. is-reference x a (omega arith)) refl) (referHead at) (λ b. refl)
 
   pub key-front : Stand s at stop (form keyLength n) → keyAt s at stop ≡ spelling s (at + length (form keyLength n)) n stop
@@ -153,7 +153,7 @@ module _ (s : List ℕ) (at stop n : ℕ) (few : n ≤ limit) where
   -- `0d` and a second byte
   special-front : (F : Family) → Sound F → (c : ℕ) (bs : List ℕ) → form F n ≡ 0x0d ∷ c ∷ bs → (H : Count → Head) → secondHead s at stop c ≡ H (countAt F s at stop)
       → Stand s at stop (form F n) → headAt s at stop ≡ H (Is n (at + length (form F n)))
-  unfolding stands markerOf
+  unfolding headBy markerOf
   special-front F good c bs q H e h =
       let k : Stand s at stop (0x0d ∷ c ∷ bs) = subst (Stand s at stop) q h in
       let k′ : Stand s (at + 1) stop (c ∷ bs) = stand-second s at stop (0x0d ∷ []) (c ∷ bs) k in

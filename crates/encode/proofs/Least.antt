@@ -9,13 +9,13 @@ use lib.Dec.{ltb, leb, eqb}
 use lib.Seq.{length-take-le}
 use borrow.Author.Tests.{ltb-true, ltb-false}
 use Rattle.wide.specs.declared.wide.Wide.{Wide}
-use Rattle.wide.specs.Words.{whole as wordsWhole, valueOf, words, wideOf}
+use Rattle.wide.specs.Words.{wideEnd as wordsWhole, valueOf, words, wideOf}
 use Rattle.wide.specs.Number.{number}
 use Rattle.wide.specs.Body.{sizeAt, bodyValue, rank}
 use Rattle.wide.specs.Family.{behind, Family, Coded, is, short, other, coded, hasNumber, numberOf, form}
 use Rattle.wide.specs.Members.{integerSigned, integerUnsigned, integer, textLength, binaryLength, arrayCount, recordCount, mapCount, keyLength, referenceNumber, declarationCount, foreignLength}
 use Rattle.wide.proofs.Families.{cond-case, Sound, Reads, reads, direct-form, body-form}
-use Rattle.wide.proofs.Ranks.{bool-case, reach, Held, body-held, rank-lt, rank-least, rank-holds, size-mono}
+use Rattle.wide.proofs.Ranks.{bool-case, reach, Kept, body-held, rank-lt, rank-least, rank-holds, size-mono}
 use Rattle.wide.proofs.Numbers.{Bytes, bytes-take, bytes-drop, length-bytesOf}
 use Rattle.wide.proofs.Nearness.{behind-up, behind-zero}
 use Rattle.wide.proofs.Wides.{value-wide}
@@ -24,7 +24,7 @@ use Rattle.rows.specs.Table.{Own, limit}
 use Rattle.format.specs.declared.head.Count.{Count}
 use Rattle.format.specs.declared.head.Count.the-variants.{Is, Not}
 use Rattle.format.specs.declared.refusal.Refusal.the-variants as why
-use Rattle.format.specs.Head.{part, countOf, countAt}
+use Rattle.format.specs.Head.{between, countOf, countAt}
 use native.Mathlib.Nat.{min-le-left}
 use Rattle.text.specs.declared.answer.Text.{Text}
 use Rattle.text.specs.declared.answer.Text.the-variants.{WellFormed, IllFormed}
@@ -40,20 +40,20 @@ use Rattle.format.specs.declared.head.Head.{Head}
 use Rattle.format.specs.declared.head.Head.the-variants as stand
 use Rattle.format.specs.declared.head.Children.{Children}
 use Rattle.format.specs.declared.head.Children.the-variants.{Entries}
-use Rattle.format.specs.Head.{Marker, constant, float, text, array, entries, map, binary, special, nothing, signedBody, unsignedBody, small, char, reference, markerOf, bodied, spelled, spellingOf, codepoint, charBody, floatSize, withCount, textHead, declareHead, foreignHead, secondHead, stands, headAt, keyAt}
+use Rattle.format.specs.Head.{Marker, constant, float, text, array, entries, map, binary, special, nothing, signedBody, unsignedBody, small, char, reference, markerOf, bodied, spelled, spellingOf, codepoint, charBody, floatSize, withCount, textHead, declareHead, foreignHead, secondHead, headBy, headAt, keyAt}
 use Rattle.format.specs.Tree.{Tree, leaf, foreign, damaged, Trees}
-use Rattle.format.specs.Value.{Reading, right, wrong, Run, ran, broke, integerOwn, leafOwn, kindOf, childCount, childrenOf, keyed, isKey, inForce, inTurn, child, ahead, follow, run, held, referred, closed, declaring, ended, whole, framed, inForeign, step, value, document}
+use Rattle.format.specs.Value.{Reading, right, wrong, Readings, ran, broke, integerOwn, leafOwn, kindOf, childCount, childrenOf, keyed, isKey, inForce, inTurn, child, ahead, follow, readings, holding, referred, closed, declaring, ended, whole, framed, inForeign, step, value, document}
 use Rattle.rules.specs.declared.kind.Kind.{Kind}
 use Rattle.rules.specs.declared.kind.Kind.the-variants.{Constant, Small, Signed, Unsigned, Float, Text as Spelt, Binary, Char, Damaged, Key}
 use Rattle.rules.specs.Shape.{named}
 use Rattle.rules.proofs.Read.{marker-has, small-words, small-both}
 use Rattle.wide.proofs.Runs.{number-has}
-use Rattle.encode.specs.Encode.{holderCount, headFor, headOf, hasBytes, payload, encode, encodes}
+use Rattle.encode.specs.Encode.{holderCount, headFor, headOf, hasBytes, payloadOf, encode, encodes}
 use Rattle.format.proofs.Heads.{IntegerAt, Payload, floating, written, plain, ContentAt, Stood, head-stood}
 use Rattle.format.proofs.Values.{ReadAt, value-read, document-value, document-next}
 use Rattle.encode.proofs.Fronts.{no-alone, limit-whole}
 use Rattle.encode.proofs.Again.{reference-head, holder-head, declaration-head, foreign-head, damaged-named}
-use Rattle.format.specs.Refusal.{numberOf as refusalNumber}
+use Rattle.format.specs.Refusal.{refusalNumber}
 
 -- ---- a length, count or number
 
@@ -74,7 +74,7 @@ count-of F good s b at n next other e q = absurd (let z : _≡_ {A = ℕ} 0 1 = 
 pub count-least : (F : Family) → Sound F → (s : List ℕ) → Bytes s → (at stop n next : ℕ) → countAt F s at stop ≡ Is n next → at + length (form F n) ≤ next
 unfolding countAt
 count-least F good s b at stop n next e =
-    count-of F good (part s at stop) (bytes-take (stop - at) (drop at s) (bytes-drop at s b)) at n next (coded F (part s at stop)) refl e
+    count-of F good (between s at stop) (bytes-take (stop - at) (drop at s) (bytes-drop at s b)) at n next (coded F (between s at stop)) refl e
 
 -- ---- the length of a form does not fall
 
@@ -167,8 +167,8 @@ module _ (s : List ℕ) (b : Bytes s) (at stop : ℕ) where
       (λ _. with-least foreignLength (sound-headers .foreign) _ (λ n place h. cond-case (LeastHead at) (leb n (stop - place)) (stand.Foreign place n) (stand.Refuse why.Short at) (λ _. h) (λ _. tt)))
       (λ _. tt))
 
-  stands-least : (c : ℕ) (m : Marker) → LeastHead at (stands s at stop c m)
-  unfolding stands
+  stands-least : (c : ℕ) (m : Marker) → LeastHead at (headBy s at stop c m)
+  unfolding headBy
   stands-least c constant = tt
   stands-least c small = tt
   stands-least c signedBody = bodied-least at (holds.Integer true (at + 1) (sizeAt (c - 0x10))) (at + 1) (sizeAt (c - 0x10)) stop tt
@@ -189,7 +189,7 @@ module _ (s : List ℕ) (b : Bytes s) (at stop : ℕ) where
 
   head-least : LeastHead at (headAt s at stop)
   unfolding headAt
-  head-least = cond-case (LeastHead at) (ltb at stop) (stands s at stop (getD s at 0) (markerOf (getD s at 0))) (stand.Refuse why.Short at) (λ _. stands-least (getD s at 0) (markerOf (getD s at 0))) (λ _. tt)
+  head-least = cond-case (LeastHead at) (ltb at stop) (headBy s at stop (getD s at 0) (markerOf (getD s at 0))) (stand.Refuse why.Short at) (λ _. stands-least (getD s at 0) (markerOf (getD s at 0))) (λ _. tt)
 
 -- ---- a leaf
 
@@ -197,13 +197,13 @@ part-short : (s : List ℕ) (place n : ℕ) → length (take n (drop place s)) �
 part-short s place n = omega (arith, length-take n (drop place s), min-le-left n (length (drop place s)))
 
 -- a leaf with a payload of n bytes
-span-least : (s : List ℕ) (o : Own) (at : ℕ) (K : Kind) → named o ≡ K → hasBytes K ≡ true → at + length (headFor o 0 K) ≤ o .w0 → at + length (headOf o 0 ++ payload s o) ≤ o .w0 + o .w1
+span-least : (s : List ℕ) (o : Own) (at : ℕ) (K : Kind) → named o ≡ K → hasBytes K ≡ true → at + length (headFor o 0 K) ≤ o .w0 → at + length (headOf o 0 ++ payloadOf s o) ≤ o .w0 + o .w1
 span-least s o at K e h l =
     subst (λ (J : Kind). at + length (headFor o 0 J ++ cond (hasBytes J) (take (o .w1) (drop (o .w0) s)) []) ≤ o .w0 + o .w1) (sym e)
     (rw h (omega (arith, l, length-append (headFor o 0 K) (take (o .w1) (drop (o .w0) s)), part-short s (o .w0) (o .w1))))
 
 -- one without
-plain-least : (s : List ℕ) (o : Own) (at next : ℕ) (K : Kind) → named o ≡ K → hasBytes K ≡ false → at + length (headFor o 0 K) ≤ next → at + length (headOf o 0 ++ payload s o) ≤ next
+plain-least : (s : List ℕ) (o : Own) (at next : ℕ) (K : Kind) → named o ≡ K → hasBytes K ≡ false → at + length (headFor o 0 K) ≤ next → at + length (headOf o 0 ++ payloadOf s o) ≤ next
 plain-least s o at next K e h l =
     subst (λ (J : Kind). at + length (headFor o 0 J ++ cond (hasBytes J) (take (o .w1) (drop (o .w0) s)) []) ≤ next) (sym e)
     (rw h (omega (arith, l, ap length (append-nil (headFor o 0 K)))))
@@ -233,10 +233,10 @@ body-length sign n z j low e sized l h =
     omega (arith, body-form-length sign n e, size-mono (rank sign n) j l r)
 
 -- a body's number is as near as its size says
-body-read : (s : List ℕ) → Bytes s → (at next place n : ℕ) (sign : Bool) → IntegerAt at next place n → next ≤ length s → Held sign n (bodyValue sign (take n (drop place s)))
+body-read : (s : List ℕ) → Bytes s → (at next place n : ℕ) (sign : Bool) → IntegerAt at next place n → next ≤ length s → Kept sign n (bodyValue sign (take n (drop place s)))
 body-read s b at next place n sign w u =
     let l : length (take n (drop place s)) ≡ n = length-take-le n (drop place s) (omega (arith, length-drop place s, w .ends)) in
-    subst (λ (z : ℕ). Held sign z (bodyValue sign (take n (drop place s)))) l (body-held sign (take n (drop place s)) (bytes-take n (drop place s) (bytes-drop place s b)) (omega (arith, l, w .few)))
+    subst (λ (z : ℕ). Kept sign z (bodyValue sign (take n (drop place s)))) l (body-held sign (take n (drop place s)) (bytes-take n (drop place s) (bytes-drop place s b)) (omega (arith, l, w .few)))
 
 integer-least : (s : List ℕ) → Bytes s → (at next place n : ℕ) (sign : Bool) → IntegerAt at next place n → next ≤ length s → at + length (encode s (leaf (leafOwn s (holds.Integer sign place n)))) ≤ next
 unfolding leafOwn encode headFor named
@@ -283,7 +283,7 @@ abbrev LeastRead : List ℕ → ℕ → Reading → Type 0
 LeastRead s at (right t next) = at + length (encode s t) ≤ next
 LeastRead s at (wrong e place) = Unit {0}
 
-abbrev LeastRun : List ℕ → ℕ → Run → Type 0
+abbrev LeastRun : List ℕ → ℕ → Readings → Type 0
 LeastRun s at (ran ts next) = at + length (encodes s ts) ≤ next
 LeastRun s at (broke e place) = Unit {0}
 
@@ -314,21 +314,21 @@ module _ (s : List ℕ) (b : Bytes s) (few : length s ≤ limit) (d : ℕ) (good
   unfolding child
   child-least c k i at stop l = turn-least (isKey c i) (inForce c k i) at stop l
 
-  ahead-least : (at m : ℕ) (t : Tree) (q : Run) → at + length (encode s t) ≤ m → LeastRun s m q → LeastRun s at (ahead t q)
+  ahead-least : (at m : ℕ) (t : Tree) (q : Readings) → at + length (encode s t) ≤ m → LeastRun s m q → LeastRun s at (ahead t q)
   unfolding encode
   ahead-least at m t (ran ts next) h g = omega (arith, h, g, length-append (encode s t) (encodes s ts))
   ahead-least at m t (broke e p) h g = tt
 
-  follow-least : (at : ℕ) (x : Reading) → LeastRead s at x → (rest : ℕ → Run) → ((m : ℕ) → LeastRun s m (rest m)) → LeastRun s at (follow x rest)
+  follow-least : (at : ℕ) (x : Reading) → LeastRead s at x → (rest : ℕ → Readings) → ((m : ℕ) → LeastRun s m (rest m)) → LeastRun s at (follow x rest)
   follow-least at (right t m) h rest f = ahead-least at m t (rest m) h (f m)
   follow-least at (wrong e p) h rest f = tt
 
-  run-least : (c : Children) (k i n at stop : ℕ) → stop ≤ length s → LeastRun s at (run (value d s) c s k i n at stop)
-  unfolding run encode
+  run-least : (c : Children) (k i n at stop : ℕ) → stop ≤ length s → LeastRun s at (readings (value d s) c s k i n at stop)
+  unfolding readings encode
   run-least c k i zero at stop l = omega arith
   run-least c k i (suc n) at stop l = follow-least at (child c (value d s) s k i at stop) (child-least c k i at stop l) _ (λ m. run-least c k (i + 1) n m stop l)
 
-  held-least : (h : Holder) (at n next : ℕ) (q : Run) → at + length (form (holderCount h) n) ≤ next → LeastRun s next q → LeastRead s at (held (holderOwn (kindOf h) n) q)
+  held-least : (h : Holder) (at n next : ℕ) (q : Readings) → at + length (form (holderCount h) n) ≤ next → LeastRun s next q → LeastRead s at (holding (holderOwn (kindOf h) n) q)
   unfolding encode
   held-least h at n next (ran ts m) l g =
       let L : ℕ = length (encodes s ts) in
@@ -342,7 +342,7 @@ module _ (s : List ℕ) (b : Bytes s) (few : length s ≤ limit) (d : ℕ) (good
       omega (arith, l, g, h, length-append (headOf (declarationOwn n) (length Y)) Y, length-append (encodes s es) (encode s t), ap length (declaration-head n (length Y)))
   closed-least at n next m es (wrong e p) l g h = tt
 
-  declaring-least : (at n next stop : ℕ) (q : Run) → at + length (form declarationCount n) ≤ next → LeastRun s next q → stop ≤ length s → LeastRead s at (declaring n q (value d s) stop)
+  declaring-least : (at n next stop : ℕ) (q : Readings) → at + length (form declarationCount n) ≤ next → LeastRun s next q → stop ≤ length s → LeastRead s at (declaring n q (value d s) stop)
   declaring-least at n next stop (ran es m) l g h = closed-least at n next m es (value d s n m stop) l g (good n m stop h)
   declaring-least at n next stop (broke e p) l g h = tt
 
@@ -365,13 +365,13 @@ module _ (s : List ℕ) (b : Bytes s) (few : length s ≤ limit) (d : ℕ) (good
   step-least : (k at stop : ℕ) → stop ≤ length s → (h : Head) → Stood s at stop h → LeastHead at h → LeastRead s at (step (value d s) s k at stop h)
   unfolding step encode
   step-least k at stop l (stand.Leaf c next) w g = content-least s b at next (c) (w .content) g (omega (arith, w .within))
-  step-least k at stop l (stand.Hold h n next) w g = held-least h at n next (run (value d s) (childrenOf h) s k 0 (childCount h n) next stop) g (run-least (childrenOf h) k 0 (childCount h n) next stop l)
+  step-least k at stop l (stand.Hold h n next) w g = held-least h at n next (readings (value d s) (childrenOf h) s k 0 (childCount h n) next stop) g (run-least (childrenOf h) k 0 (childCount h n) next stop l)
   step-least k at stop l (stand.Refer n next) w g = go (ltb n k)
     where
       go : (c : Bool) → LeastRead s at (referred c n at next)
       go true = omega (arith, g, ap length (reference-head n 0 0))
       go false = tt
-  step-least k at stop l (stand.Declare n next) w g = declaring-least at n next stop (run (value d s) Entries s 0 0 n next stop) g (run-least Entries 0 0 n next stop l) l
+  step-least k at stop l (stand.Declare n next) w g = declaring-least at n next stop (readings (value d s) Entries s 0 0 n next stop) g (run-least Entries 0 0 n next stop l) l
   step-least k at stop l (stand.Foreign place n) w g =
       framed-least at place n g (w .few) (value d s (inForeign k) place (place + n)) (good (inForeign k) place (place + n) (omega (arith, w .within))) (value-read d s (inForeign k) place (place + n))
   step-least k at stop l (stand.Refuse e place) w g = tt

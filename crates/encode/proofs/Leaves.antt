@@ -8,7 +8,7 @@ use mathlib.Core.List.{List, [], _∷_, _++_}
 use lib.ListN.{length, take, drop, length-append}
 use lib.Dec.{lit≤}
 use borrow.Author.Tests.{le-leb}
-use Rattle.wide.specs.Words.{whole}
+use Rattle.wide.specs.Words.{wideEnd}
 use Rattle.wide.specs.Number.{number, bytesOf}
 use Rattle.wide.specs.Body.{sizeAt, bodyValue, rank}
 use Rattle.wide.specs.Family.{hasNumber, byteOf, form}
@@ -24,7 +24,7 @@ use Rattle.rows.specs.Kinds.{kindFloat, kindText, kindBinary}
 use Rattle.format.specs.declared.head.Content.the-variants as holds
 use Rattle.format.specs.declared.head.Head.the-variants as stand
 use Rattle.format.specs.declared.head.Spelling.the-variants.{At}
-use Rattle.format.specs.Head.{Marker, constant, float, signedBody, unsignedBody, small, char, markerOf, codepoint, floatSize, integerHead, stands, headAt, keyAt}
+use Rattle.format.specs.Head.{Marker, constant, float, signedBody, unsignedBody, small, char, markerOf, codepoint, floatSize, integerHead, headBy, headAt, keyAt}
 use Rattle.format.proofs.Markers.{is-constant, is-float, is-signed, is-unsigned, is-small}
 use Rattle.encode.proofs.Fronts.{Stand, stand-first, stand-second, stand-part, head-by, text-front, binary-front, key-front, no-alone, alone-byte}
 
@@ -35,7 +35,7 @@ module _ (s : List ℕ) (at stop : ℕ) where
   -- ---- one byte
 
   pub constant-back : (kind : ℕ) → 1 ≤ kind → kind ≤ 3 → Stand s at stop ((kind - 1) ∷ []) → headAt s at stop ≡ stand.Leaf (holds.Constant kind) (at + 1)
-  unfolding stands
+  unfolding headBy
   constant-back kind l u h =
       let e : kind - 1 + 1 ≡ kind = omega arith in
       head-by s at stop (kind - 1) [] constant h (is-constant (kind - 1) (omega arith)) ∙ ap (λ (x : ℕ). stand.Leaf (holds.Constant x) (at + 1)) e
@@ -73,7 +73,7 @@ module _ (s : List ℕ) (at stop : ℕ) where
 
     -- a float, whose marker tells its size
     pub float-back : (b : ℕ) → 3 ≤ b → b < 8 → floatSize b ≡ n → (h : Stand s at stop ((b ∷ []) ++ P)) → headAt s at stop ≡ stand.Leaf (holds.Span kindFloat (at + 1) n) (at + 1 + n)
-    unfolding stands
+    unfolding headBy
     float-back b l u e h =
         head-by s at stop b P float h (is-float b l u)
         ∙ rw (e, le-leb n (stop - (at + 1)) (payload-room (b ∷ []) P n h long))
@@ -81,7 +81,7 @@ module _ (s : List ℕ) (at stop : ℕ) where
   -- ---- a char
 
   pub char-back : (c : ℕ) → codepoint c ≡ true → c ≤ 0x10FFFF → (h : Stand s at stop (0xc0 ∷ bytesOf 3 c)) → headAt s at stop ≡ stand.Leaf (holds.Char c) (at + 4)
-  unfolding stands markerOf
+  unfolding headBy markerOf
   char-back c e u h =
       let k : Stand s (at + 1) stop (bytesOf 3 c) = stand-second s at stop (0xc0 ∷ []) (bytesOf 3 c) h in
       let q : number (bytesOf 3 c) ≡ c = number-bytesOf 3 c ∙ mod-eq-of-lt (omega arith) in
@@ -90,10 +90,10 @@ module _ (s : List ℕ) (at stop : ℕ) where
 
   -- ---- integers
 
-  module _ (n : ℕ) (low : n < whole) where
+  module _ (n : ℕ) (low : n < wideEnd) where
     pub small-back : hasNumber (integerSigned .direct) n ≡ true → Stand s at stop (form integerSigned n)
         → headAt s at stop ≡ stand.Leaf (holds.Small (byteOf (integerSigned .direct) n)) (at + 1)
-    unfolding stands
+    unfolding headBy
     small-back e h =
         let b : ℕ = byteOf (integerSigned .direct) n in
         let q : form integerSigned n ≡ b ∷ [] = no-alone integerSigned (sound-integers .signed) n refl ∙ direct-form integerSigned (sound-integers .signed) n e in
@@ -101,7 +101,7 @@ module _ (s : List ℕ) (at stop : ℕ) where
         head-by s at stop b [] small (subst (Stand s at stop) q h) (is-small b (l .0) (l .1))
 
     -- a body behind the marker b
-    body-head : (sign : Bool) (b : ℕ) (m : Marker) → markerOf b ≡ m → stands s at stop b m ≡ integerHead at stop (rank sign n) sign → Stand s at stop (b ∷ bytesOf (sizeAt (rank sign n)) n)
+    body-head : (sign : Bool) (b : ℕ) (m : Marker) → markerOf b ≡ m → headBy s at stop b m ≡ integerHead at stop (rank sign n) sign → Stand s at stop (b ∷ bytesOf (sizeAt (rank sign n)) n)
         → headAt s at stop ≡ stand.Leaf (holds.Integer sign (at + 1) (sizeAt (rank sign n))) (at + 1 + sizeAt (rank sign n))
     body-head sign b m e same h =
         let z : ℕ = sizeAt (rank sign n) in
@@ -110,7 +110,7 @@ module _ (s : List ℕ) (at stop : ℕ) where
 
     pub signed-back : hasNumber (integerSigned .direct) n ≡ false → (h : Stand s at stop (form integerSigned n))
         → headAt s at stop ≡ stand.Leaf (holds.Integer true (at + 1) (sizeAt (rank true n))) (at + 1 + sizeAt (rank true n))
-    unfolding stands
+    unfolding headBy
     signed-back e h =
         let r : rank true n < 8 = rank-lt true n low in
         let q = no-alone integerSigned (sound-integers .signed) n refl ∙ body-form integerSigned (sound-integers .signed) n e in
@@ -118,7 +118,7 @@ module _ (s : List ℕ) (at stop : ℕ) where
 
     pub unsigned-back : hasNumber (integerUnsigned .direct) n ≡ false → (h : Stand s at stop (form integerUnsigned n))
         → headAt s at stop ≡ stand.Leaf (holds.Integer false (at + 1) (sizeAt (rank false n))) (at + 1 + sizeAt (rank false n))
-    unfolding stands
+    unfolding headBy
     unsigned-back e h =
         let r : rank false n < 8 = rank-lt false n low in
         let q = no-alone integerUnsigned (sound-integers .unsigned) n refl ∙ body-form integerUnsigned (sound-integers .unsigned) n e in

@@ -1,5 +1,5 @@
 -- Laws that belong to no one function.
-pub mod Moved
+pub mod Elsewhere
 pub mod Places
 pub mod Fronts
 pub mod Leaves
@@ -9,3 +9,4 @@ pub mod Alike
 pub mod Least
 pub mod Shortest
 pub mod Worded
+pub mod Placed

@@ -7,7 +7,12 @@ use lib.ListN.{take, drop}
 use Rattle.rows.specs.Table.{Own}
 use Rattle.rules.specs.declared.kind.Kind.{Kind}
 use Rattle.rules.specs.Shape.{named}
-use Rattle.encode.specs.Encode.{hasBytes, payload, movedIf, moved}
+use Rattle.encode.specs.Encode.{hasBytes, payloadOf, moved}
+use Rattle.rows.specs.Table.{withPlace}
+
+-- a row with its payload, if it has one, at `place`
+abbrev pub movedIf : Bool → Own → ℕ → Own
+movedIf b o place = cond b (withPlace o place) o
 
 module _ (o : Own) (place : ℕ) where
   pub moved-named : named (moved o place) ≡ named o
@@ -26,7 +31,7 @@ module _ (o : Own) (place : ℕ) where
       of false = refl
 
   -- its payload is what stands there
-  pub moved-payload : (s : List ℕ) → payload s (moved o place) ≡ cond (hasBytes (named o)) (take (o .w1) (drop place s)) []
+  pub moved-payload : (s : List ℕ) → payloadOf s (moved o place) ≡ cond (hasBytes (named o)) (take (o .w1) (drop place s)) []
   moved-payload s = ap (λ (K : Kind). cond (hasBytes K) (take (moved o place .w1) (drop (moved o place .w0) s)) []) moved-named ∙ of (hasBytes (named o))
     where
       of : (b : Bool) → cond b (take (movedIf b o place .w1) (drop (movedIf b o place .w0) s)) [] ≡ cond b (take (o .w1) (drop place s)) []

@@ -13,7 +13,8 @@ use Rattle.format.specs.Value.{right, document}
 use Rattle.rules.specs.declared.kind.Kind.{Kind}
 use Rattle.rules.specs.declared.kind.Kind.the-variants.{Constant, Small, Signed, Unsigned, Float, Text, Holds, Binary, Char, Reference, Declaration, Whole, Damaged, Key, Unknown}
 use Rattle.rules.specs.Shape.{named}
-use Rattle.encode.specs.Encode.{headFor, headOf, hasBytes, payload, movedIf, moved, encode, encodes}
+use Rattle.encode.specs.Encode.{headFor, headOf, hasBytes, payloadOf, moved, encode, encodes}
+use Rattle.encode.proofs.Places.{movedIf}
 use Rattle.encode.specs.Said.{Said, one, over, under, Saids, none, more, said, saids}
 use Rattle.encode.proofs.Places.{moved-named}
 use Rattle.encode.proofs.Least.{document-least}
@@ -51,14 +52,14 @@ head-free o place Unknown = refl
 moved-head : (o : Own) (place : ℕ) → headOf (moved o place) 0 ≡ headOf o 0
 moved-head o place = ap (headFor (moved o place) 0) (moved-named o place) ∙ head-free o place (named o)
 
-one-width : (s : List ℕ) (o : Own) → length (headOf (moved o 0) 0) + length (payload s o) ≡ length (headOf o 0) + length (payload s o)
-one-width s o = ap (λ (l : List ℕ). length l + length (payload s o)) (moved-head o 0)
+one-width : (s : List ℕ) (o : Own) → length (headOf (moved o 0) 0) + length (payloadOf s o) ≡ length (headOf o 0) + length (payloadOf s o)
+one-width s o = ap (λ (l : List ℕ). length l + length (payloadOf s o)) (moved-head o 0)
 
 mutual
   unfolding said encode width
 
   pub said-width : (s : List ℕ) (t : Tree) → length (encode s t) ≡ width (said s t)
-  said-width s (leaf o) = length-append (headOf o 0) (payload s o) ∙ sym (one-width s o)
+  said-width s (leaf o) = length-append (headOf o 0) (payloadOf s o) ∙ sym (one-width s o)
   said-width s (refer o) = sym (add-zero (length (headOf o 0)))
   said-width s (hold o ts) =
       length-append (headOf o (length (encodes s ts))) (encodes s ts) ∙ ap (λ (n : ℕ). length (headOf o n) + n) (saids-width s ts)
@@ -68,7 +69,7 @@ mutual
       length-append (headOf o (length Y)) Y ∙ ap (λ (n : ℕ). length (headOf o n) + n) e
   said-width s (foreign o t) =
       length-append (headOf o (length (encode s t))) (encode s t) ∙ ap (λ (n : ℕ). length (headOf o n) + n) (said-width s t ∙ sym (add-zero (width (said s t))))
-  said-width s (damaged o) = length-append (headOf o 0) (payload s o) ∙ sym (one-width s o)
+  said-width s (damaged o) = length-append (headOf o 0) (payloadOf s o) ∙ sym (one-width s o)
 
   saids-width : (s : List ℕ) (ts : Trees) → length (encodes s ts) ≡ widths (saids s ts)
   saids-width s trees.none = refl

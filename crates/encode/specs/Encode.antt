@@ -18,13 +18,13 @@ use Rattle.rules.specs.declared.kind.Kind.the-variants.{Constant, Small, Signed
 use Rattle.rules.specs.Shape.{named}
 
 -- where a number stands in a list
-abbrev pub placeIn : List ℕ → ℕ → ℕ
-placeIn [] n = 0
-placeIn (m ∷ ms) n = cond (eqb n m) 0 (suc (placeIn ms n))
+abbrev pub indexIn : List ℕ → ℕ → ℕ
+indexIn [] n = 0
+indexIn (m ∷ ms) n = cond (eqb n m) 0 (suc (indexIn ms n))
 
 -- "`03`..`07`: float bodies of 2, 4, 8, 16, 32 bytes"
 unfoldable pub floatMarker : ℕ → ℕ
-floatMarker size = 0x03 + placeIn floatSizes size
+floatMarker size = 0x03 + indexIn floatSizes size
 
 -- the counts of holders
 abbrev pub holderCount : Holder → Family
@@ -73,43 +73,23 @@ hasBytes Key = true
 hasBytes Unknown = false
 
 -- the bytes of the data that a row has
-abbrev pub payload : List ℕ → Own → List ℕ
-payload s o = cond (hasBytes (named o)) (take (o .w1) (drop (o .w0) s)) []
+abbrev pub payloadOf : List ℕ → Own → List ℕ
+payloadOf s o = cond (hasBytes (named o)) (take (o .w1) (drop (o .w0) s)) []
 
 -- the same row with its payload, if it has one, at `place`
-abbrev pub movedIf : Bool → Own → ℕ → Own
-movedIf true o place = withPlace o place
-movedIf false o place = o
-
 abbrev pub moved : Own → ℕ → Own
-moved o place = movedIf (hasBytes (named o)) o place
+moved o place = cond (hasBytes (named o)) (withPlace o place) o
 
 -- "It writes each value in the fewest bytes its kind and size of float allow, keeping declarations and foreign headers."
 unfoldable mutual
   pub encode : List ℕ → Tree → List ℕ
-  encode s (leaf o) = headOf o 0 ++ payload s o
+  encode s (leaf o) = headOf o 0 ++ payloadOf s o
   encode s (refer o) = headOf o 0
   encode s (hold o ts) = headOf o (length (encodes s ts)) ++ encodes s ts
   encode s (declare o es t) = headOf o (length (encodes s es ++ encode s t)) ++ (encodes s es ++ encode s t)
   encode s (foreign o t) = headOf o (length (encode s t)) ++ encode s t
-  encode s (damaged o) = headOf o 0 ++ payload s o
+  encode s (damaged o) = headOf o 0 ++ payloadOf s o
 
   pub encodes : List ℕ → Trees → List ℕ
   encodes s none = []
   encodes s (more t ts) = encode s t ++ encodes s ts
-
--- the tree with the places that its payloads have where its bytes stand from `at` on
-unfoldable mutual
-  pub placed : List ℕ → Tree → ℕ → Tree
-  placed s (leaf o) at = leaf (moved o (at + length (headOf o 0)))
-  placed s (refer o) at = refer o
-  placed s (hold o ts) at = hold o (placeds s ts (at + length (headOf o (length (encodes s ts)))))
-  placed s (declare o es t) at =
-      declare o (placeds s es (at + length (headOf o (length (encodes s es ++ encode s t)))))
-      (placed s t (at + length (headOf o (length (encodes s es ++ encode s t))) + length (encodes s es)))
-  placed s (foreign o t) at = foreign o (placed s t (at + length (headOf o (length (encode s t)))))
-  placed s (damaged o) at = damaged (moved o (at + length (headOf o 0)))
-
-  pub placeds : List ℕ → Trees → ℕ → Trees
-  placeds s none at = none
-  placeds s (more t ts) at = more (placed s t at) (placeds s ts (at + length (encode s t)))

@@ -31,7 +31,7 @@ use Rattle.format.specs.declared.head.Holder.{Holder}
 use Rattle.format.specs.declared.head.Holder.the-variants.{Array, Record, Map}
 use Rattle.format.specs.declared.head.Head.{Head}
 use Rattle.format.specs.declared.head.Head.the-variants.{Leaf, Hold, Refer, Declare, Foreign, Refuse}
-use Rattle.format.specs.Head.{Marker, constant, float, text, array, entries, map, binary, special, nothing, signedBody, unsignedBody, small, char, reference, markerOf, part, countOf, countAt, bodied, spelled, spellingOf, codepoint, charBody, charHead, floatSize, textHead, binaryHead, holderHead, referHead, declareHead, foreignHead, specialHead, stands, headAt, keyAt}
+use Rattle.format.specs.Head.{Marker, constant, float, text, array, entries, map, binary, special, nothing, signedBody, unsignedBody, small, char, reference, markerOf, between, countOf, countAt, bodied, spelled, spellingOf, codepoint, charBody, charHead, floatSize, textHead, binaryHead, holderHead, referHead, declareHead, foreignHead, specialHead, headBy, headAt, keyAt}
 
 -- ---- a length, count or number
 
@@ -56,7 +56,7 @@ coded-counted at stop l h other t = tt
 pub counted : (F : Family) (s : List ℕ) (at stop : ℕ) → Counted at stop (countAt F s at stop)
 unfolding countAt
 counted F s at stop =
-    coded-counted at stop (length (part s at stop)) (omega (arith, length-take (stop - at) (drop at s))) (coded F (part s at stop)) (coded-takes F (part s at stop))
+    coded-counted at stop (length (between s at stop)) (omega (arith, length-take (stop - at) (drop at s))) (coded F (between s at stop)) (coded-takes F (between s at stop))
 
 -- ---- what a head may be relied on for
 
@@ -306,8 +306,8 @@ marker-marked b =
     (λ _. below (Marked b) b 0xc1 _ _ (λ _. tt) (λ _. tt)))))))))))))))))
 
 module _ (s : List ℕ) (at stop : ℕ) where
-  marker-stood : (b : ℕ) (m : Marker) → at < stop → Marked b m → Stood s at stop (stands s at stop b m)
-  unfolding stands
+  marker-stood : (b : ℕ) (m : Marker) → at < stop → Marked b m → Stood s at stop (headBy s at stop b m)
+  unfolding headBy
   marker-stood b constant h k =
       record { after = omega arith; within = omega arith; content = record { low = omega arith; high = omega arith; ends = refl } }
   marker-stood b small h k =

@@ -10,13 +10,13 @@ use lib.ListN.{length, getD, drop, length-append, List·getD-append}
 use lib.Seq.{sets, getD-at, length-take-le}
 use Rattle.lists.proofs.Sets.{sets-append}
 use Rattle.rows.specs.declared.row.Row.{Row}
-use Rattle.rows.specs.Table.{wordsPerRow, Own, rowOf, wordsOf, rowAt, lent}
+use Rattle.rows.specs.Table.{wordsPerRow, Own, rowOf, wordsOf, rowAt, lent, aimed}
 use Rattle.rows.proofs.Rows.{row-words, row-sets-in, row-last}
 use Rattle.format.specs.declared.head.Holder.{Holder}
 use Rattle.format.specs.declared.head.Holder.the-variants.{Array, Record, Map}
 use Rattle.format.specs.Tree.{Tree, leaf, refer, hold, declare, foreign, damaged, Trees, none, more, many, size, sizes}
 use Rattle.format.specs.Value.{childrenOf, inForce, inForeign}
-use Rattle.format.specs.Layout.{isEntry, layout, layouts, entries, grown, inBody, aimed}
+use Rattle.format.specs.Layout.{isEntry, layout, layouts, entries, grown, inBody}
 
 -- ---- a holder's children
 

@@ -18,10 +18,10 @@ use Rattle.format.specs.declared.head.Head.{Head}
 use Rattle.format.specs.declared.head.Head.the-variants.{Leaf, Hold, Refer, Declare, Foreign, Refuse}
 use Rattle.format.specs.declared.head.Children.{Children}
 use Rattle.format.specs.declared.head.Children.the-variants.{Entries}
-use Rattle.format.specs.Refusal.{numberOf as refusalNumber}
+use Rattle.format.specs.Refusal.{refusalNumber}
 use Rattle.format.specs.Tree.{Tree, leaf, refer, hold, declare, foreign, damaged, Trees}
 use Rattle.format.specs.Head.{headAt, keyAt}
-use Rattle.format.specs.Value.{Reading, right, wrong, Run, ran, broke, Reader, leafOwn, kindOf, childCount, childrenOf, keyed, inTurn, child, isKey, inForce, ahead, follow, run, held, referred, closed, declaring, framed, inForeign, step, value, ended, whole, document}
+use Rattle.format.specs.Value.{Reading, right, wrong, Readings, ran, broke, Reader, leafOwn, kindOf, childCount, childrenOf, keyed, inTurn, child, isKey, inForce, ahead, follow, readings, holding, referred, closed, declaring, framed, inForeign, step, value, ended, whole, document}
 
 -- ---- a value position
 
@@ -58,25 +58,25 @@ module _ (d : ℕ) (s : List ℕ) (k at stop : ℕ) (h : Head) (head : h ≡ hea
   value-no-entry n next q l = value-referred n next q ∙ ap (λ (b : Bool). referred b n at next) (le-ltb n k l)
 
   module _ (x : Holder) (n next : ℕ) (holder : h ≡ Hold x n next) where
-    pub value-hold : value (suc d) s k at stop ≡ held (holderOwn (kindOf x) n) (run (value d s) (childrenOf x) s k 0 (childCount x n) next stop)
+    pub value-hold : value (suc d) s k at stop ≡ holding (holderOwn (kindOf x) n) (readings (value d s) (childrenOf x) s k 0 (childCount x n) next stop)
     unfolding step
     value-hold = by-head (Hold x n next) holder
 
-    pub value-held : (ts : Trees) (last : ℕ) → run (value d s) (childrenOf x) s k 0 (childCount x n) next stop ≡ ran ts last
+    pub value-held : (ts : Trees) (last : ℕ) → readings (value d s) (childrenOf x) s k 0 (childCount x n) next stop ≡ ran ts last
         → value (suc d) s k at stop ≡ right (hold (holderOwn (kindOf x) n) ts) last
-    value-held ts last e = value-hold ∙ ap (held (holderOwn (kindOf x) n)) e
+    value-held ts last e = value-hold ∙ ap (holding (holderOwn (kindOf x) n)) e
 
   module _ (n next : ℕ) (declares : h ≡ Declare n next) where
-    pub value-declare : value (suc d) s k at stop ≡ declaring n (run (value d s) Entries s 0 0 n next stop) (value d s) stop
+    pub value-declare : value (suc d) s k at stop ≡ declaring n (readings (value d s) Entries s 0 0 n next stop) (value d s) stop
     unfolding step
     value-declare = by-head (Declare n next) declares
 
-    pub value-entry-wrong : (e : Refusal) (place : ℕ) → run (value d s) Entries s 0 0 n next stop ≡ broke e place → value (suc d) s k at stop ≡ wrong e place
-    value-entry-wrong e place q = value-declare ∙ ap (λ (y : Run). declaring n y (value d s) stop) q
+    pub value-entry-wrong : (e : Refusal) (place : ℕ) → readings (value d s) Entries s 0 0 n next stop ≡ broke e place → value (suc d) s k at stop ≡ wrong e place
+    value-entry-wrong e place q = value-declare ∙ ap (λ (y : Readings). declaring n y (value d s) stop) q
 
-    module _ (es : Trees) (last : ℕ) (entries : run (value d s) Entries s 0 0 n next stop ≡ ran es last) where
+    module _ (es : Trees) (last : ℕ) (entries : readings (value d s) Entries s 0 0 n next stop ≡ ran es last) where
       behind-entries : value (suc d) s k at stop ≡ closed n es (value d s n last stop)
-      behind-entries = value-declare ∙ ap (λ (y : Run). declaring n y (value d s) stop) entries
+      behind-entries = value-declare ∙ ap (λ (y : Readings). declaring n y (value d s) stop) entries
 
       pub value-declared : (t : Tree) (end : ℕ) → value d s n last stop ≡ right t end → value (suc d) s k at stop ≡ right (declare (declarationOwn n) es t) end
       value-declared t end e = behind-entries ∙ ap (closed n es) e
@@ -129,20 +129,20 @@ module _ (R : Reader) (s : List ℕ) (k i at stop : ℕ) where
 
 module _ (R : Reader) (c : Children) (s : List ℕ) (k i : ℕ) where
   -- number i of n is left: the laws below speak of `suc m`, code of n - i and n - (i + 1)
-  pub run-left : (n at stop : ℕ) (y : Run) → i < n → run R c s k i (suc (n - (i + 1))) at stop ≡ y → run R c s k i (n - i) at stop ≡ y
-  run-left n at stop y l e = let q : n - i ≡ suc (n - (i + 1)) = omega arith in ap (λ (m : ℕ). run R c s k i m at stop) q ∙ e
+  pub run-left : (n at stop : ℕ) (y : Readings) → i < n → readings R c s k i (suc (n - (i + 1))) at stop ≡ y → readings R c s k i (n - i) at stop ≡ y
+  run-left n at stop y l e = let q : n - i ≡ suc (n - (i + 1)) = omega arith in ap (λ (m : ℕ). readings R c s k i m at stop) q ∙ e
 
   module _ (m at stop : ℕ) where
-    pub run-next : run R c s k i (suc m) at stop ≡ follow (child c R s k i at stop) (λ next. run R c s k (i + 1) m next stop)
-    unfolding run
+    pub run-next : readings R c s k i (suc m) at stop ≡ follow (child c R s k i at stop) (λ next. readings R c s k (i + 1) m next stop)
+    unfolding readings
     run-next = refl
 
     pub run-more : (t : Tree) (next : ℕ) → child c R s k i at stop ≡ right t next
-        → run R c s k i (suc m) at stop ≡ ahead t (run R c s k (i + 1) m next stop)
-    run-more t next e = run-next ∙ ap (λ (x : Reading). follow x (λ next. run R c s k (i + 1) m next stop)) e
+        → readings R c s k i (suc m) at stop ≡ ahead t (readings R c s k (i + 1) m next stop)
+    run-more t next e = run-next ∙ ap (λ (x : Reading). follow x (λ next. readings R c s k (i + 1) m next stop)) e
 
-    pub run-broke : (e : Refusal) (place : ℕ) → child c R s k i at stop ≡ wrong e place → run R c s k i (suc m) at stop ≡ broke e place
-    run-broke e place q = run-next ∙ ap (λ (x : Reading). follow x (λ next. run R c s k (i + 1) m next stop)) q
+    pub run-broke : (e : Refusal) (place : ℕ) → child c R s k i at stop ≡ wrong e place → readings R c s k i (suc m) at stop ≡ broke e place
+    run-broke e place q = run-next ∙ ap (λ (x : Reading). follow x (λ next. readings R c s k (i + 1) m next stop)) q
 
 -- ---- a document
 

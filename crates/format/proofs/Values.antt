@@ -18,10 +18,10 @@ use Rattle.format.specs.declared.head.Head.{Head}
 use Rattle.format.specs.declared.head.Head.the-variants.{Leaf, Hold, Refer, Declare, Foreign, Refuse}
 use Rattle.format.specs.declared.head.Children.{Children}
 use Rattle.format.specs.declared.head.Children.the-variants.{Entries}
-use Rattle.format.specs.Refusal.{numberOf as refusalNumber}
+use Rattle.format.specs.Refusal.{refusalNumber}
 use Rattle.format.specs.Tree.{Tree, Trees, size, sizes}
 use Rattle.format.specs.Head.{headAt, keyAt}
-use Rattle.format.specs.Value.{Reading, right, wrong, Run, ran, broke, Reader, kindOf, childCount, childrenOf, keyed, isKey, inForce, inTurn, child, ahead, follow, run, held, referred, closed, declaring, ended, whole, framed, inForeign, step, value, document}
+use Rattle.format.specs.Value.{Reading, right, wrong, Readings, ran, broke, Reader, kindOf, childCount, childrenOf, keyed, isKey, inForce, inTurn, child, ahead, follow, readings, holding, referred, closed, declaring, ended, whole, framed, inForeign, step, value, document}
 use Rattle.format.proofs.Heads.{CountAt, ForeignAt, Stood, head-stood, Spelled, key-spelled}
 
 -- ---- "w2 verdict (2..10)"
@@ -71,7 +71,7 @@ pub record BrokeAt (at stop place : ℕ) : Type 0 where
   pub from : at ≤ place
   pub within : place ≤ stop
 
-abbrev pub RunAt : ℕ → ℕ → Run → Type 0
+abbrev pub RunAt : ℕ → ℕ → Readings → Type 0
 RunAt at stop (ran ts next) = RanAt at stop ts next
 RunAt at stop (broke e place) = BrokeAt at stop place
 
@@ -85,16 +85,16 @@ keyed-read s at stop (No e) k = here at stop
 
 -- ---- children
 
-ahead-run : (at m stop : ℕ) (t : Tree) → RightAt at stop t m → (y : Run) → RunAt m stop y → RunAt at stop (ahead t y)
+ahead-run : (at m stop : ℕ) (t : Tree) → RightAt at stop t m → (y : Readings) → RunAt m stop y → RunAt at stop (ahead t y)
 unfolding sizes
 ahead-run at m stop t h (ran ts next) k = record { rows = omega arith; within = k .within }
 ahead-run at m stop t h (broke e place) k = omega arith
 
-follow-run : (at stop : ℕ) → at ≤ stop → (x : Reading) → ReadAt at stop x → (rest : ℕ → Run) → ((m : ℕ) → m ≤ stop → RunAt m stop (rest m)) → RunAt at stop (follow x rest)
+follow-run : (at stop : ℕ) → at ≤ stop → (x : Reading) → ReadAt at stop x → (rest : ℕ → Readings) → ((m : ℕ) → m ≤ stop → RunAt m stop (rest m)) → RunAt at stop (follow x rest)
 follow-run at stop a (right t m) h rest g = ahead-run at m stop t h (rest m) (g m (h .within))
 follow-run at stop a (wrong e place) h rest g = record { from = h .from; within = h .within a }
 
-held-read : (at from stop : ℕ) (o : Own) → at < from → (y : Run) → RunAt from stop y → ReadAt at stop (held o y)
+held-read : (at from stop : ℕ) (o : Own) → at < from → (y : Readings) → RunAt from stop y → ReadAt at stop (holding o y)
 unfolding size
 held-read at from stop o h (ran ts next) r = record { some = omega arith; rows = omega arith; within = r .within }
 held-read at from stop o h (broke e place) r = omega arith
@@ -106,7 +106,7 @@ closed-read at from m stop n es h r (wrong e place) k =
     let p : place ≤ stop = k .within (r .within) in
     record { from = omega arith; within = λ _. p }
 
-declaring-read : (at from stop n : ℕ) → at < from → (y : Run) → RunAt from stop y → (R : Reader) → ((m : ℕ) → ReadAt m stop (R n m stop)) → ReadAt at stop (declaring n y R stop)
+declaring-read : (at from stop n : ℕ) → at < from → (y : Readings) → RunAt from stop y → (R : Reader) → ((m : ℕ) → ReadAt m stop (R n m stop)) → ReadAt at stop (declaring n y R stop)
 declaring-read at from stop n h (ran es m) r R g = closed-read at from m stop n es h r (R n m stop) (g m)
 declaring-read at from stop n h (broke e place) r R g = omega arith
 
@@ -137,8 +137,8 @@ module _ (R : Reader) (good : (k at stop : ℕ) → ReadAt at stop (R k at stop)
   unfolding child
   child-read c k i at stop = turn-read (isKey c i) (inForce c k i) at stop
 
-  run-read : (c : Children) (k i n at stop : ℕ) → at ≤ stop → RunAt at stop (run R c s k i n at stop)
-  unfolding run sizes
+  run-read : (c : Children) (k i n at stop : ℕ) → at ≤ stop → RunAt at stop (readings R c s k i n at stop)
+  unfolding readings sizes
   run-read c k i zero at stop h = record { rows = omega arith; within = h }
   run-read c k i (suc n) at stop h = follow-run at stop h (child c R s k i at stop) (child-read c k i at stop) _ (λ m g. run-read c k (i + 1) n m stop g)
 
@@ -147,10 +147,10 @@ module _ (R : Reader) (good : (k at stop : ℕ) → ReadAt at stop (R k at stop)
   step-read k at stop (Leaf c next) w = record { some = omega arith; rows = omega arith; within = w .within }
   step-read k at stop (Hold h n next) w =
       held-read at next stop (holderOwn (kindOf h) n) (w .after)
-      (run R (childrenOf h) s k 0 (childCount h n) next stop) (run-read (childrenOf h) k 0 (childCount h n) next stop (w .within))
+      (readings R (childrenOf h) s k 0 (childCount h n) next stop) (run-read (childrenOf h) k 0 (childCount h n) next stop (w .within))
   step-read k at stop (Refer n next) w = referred-read at stop n next (ltb n k) w
   step-read k at stop (Declare n next) w =
-      declaring-read at next stop n (w .after) (run R Entries s 0 0 n next stop) (run-read Entries 0 0 n next stop (w .within)) R (λ m. good n m stop)
+      declaring-read at next stop n (w .after) (readings R Entries s 0 0 n next stop) (run-read Entries 0 0 n next stop (w .within)) R (λ m. good n m stop)
   step-read k at stop (Foreign place n) w =
       let e : ℕ = place + n in
       framed-read at stop place n w (whole e (R (inForeign k) place e)) (whole-read place e (R (inForeign k) place e) (good (inForeign k) place e))
@@ -162,7 +162,7 @@ unfolding value
 value-read zero s k at stop = here at stop
 value-read (suc d) s k at stop = step-read (value d s) (value-read d s) s k at stop (headAt s at stop) (head-stood s at stop)
 
-pub values-run : (d : ℕ) (c : Children) (s : List ℕ) (k i n at stop : ℕ) → at ≤ stop → RunAt at stop (run (value d s) c s k i n at stop)
+pub values-run : (d : ℕ) (c : Children) (s : List ℕ) (k i n at stop : ℕ) → at ≤ stop → RunAt at stop (readings (value d s) c s k i n at stop)
 values-run d c s k i n at stop h = run-read (value d s) (value-read d s) s c k i n at stop h
 
 pub values-child : (d : ℕ) (c : Children) (s : List ℕ) (k i at stop : ℕ) → ReadAt at stop (child c (value d s) s k i at stop)
@@ -194,7 +194,7 @@ module _ (d : ℕ) (s : List ℕ) (k at stop : ℕ) (e : Refusal) (place : ℕ) 
   pub wrong-within : at ≤ stop → place ≤ stop
   wrong-within h = wrong-at .within h
 
-module _ (d : ℕ) (c : Children) (s : List ℕ) (k i n at stop : ℕ) (h : at ≤ stop) (ts : Trees) (next : ℕ) (read : run (value d s) c s k i n at stop ≡ ran ts next) where
+module _ (d : ℕ) (c : Children) (s : List ℕ) (k i n at stop : ℕ) (h : at ≤ stop) (ts : Trees) (next : ℕ) (read : readings (value d s) c s k i n at stop ≡ ran ts next) where
   pub ran-at : RanAt at stop ts next
   ran-at = subst (RunAt at stop) read (values-run d c s k i n at stop h)
 

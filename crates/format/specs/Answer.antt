@@ -9,7 +9,7 @@ use Rattle.lists.specs.Zeroed.{zeroed}
 use Rattle.rows.specs.Table.{lent, limit}
 use Rattle.format.specs.declared.answer.Answer.{Answer}
 use Rattle.format.specs.declared.answer.Answer.the-variants.{Accepted, TooLong, Refused, Full}
-use Rattle.format.specs.Refusal.{numberOf as refusalNumber}
+use Rattle.format.specs.Refusal.{refusalNumber}
 use Rattle.format.specs.Tree.{size}
 use Rattle.format.specs.Value.{Reading, right, wrong, document}
 use Rattle.format.specs.Layout.{layout}

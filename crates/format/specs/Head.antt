@@ -51,8 +51,8 @@ markerOf b =
     reference))))))))))))))))  -- "`c1`..`fe`: reference 0..61; `ff` and a number"
 
 -- the bytes from `at` up to `stop`
-abbrev pub part : List ℕ → ℕ → ℕ → List ℕ
-part s at stop = take (stop - at) (drop at s)
+abbrev pub between : List ℕ → ℕ → ℕ → List ℕ
+between s at stop = take (stop - at) (drop at s)
 
 -- "4 huge: length, count or number above 16,777,215"; the marker was looked at before, so `other` does not occur
 abbrev pub countOf : ℕ → Coded → Count
@@ -62,7 +62,7 @@ countOf at other = Not why.Marker
 
 -- the number of a family at `at`
 unfoldable pub countAt : Family → List ℕ → ℕ → ℕ → Count
-countAt F s at stop = countOf at (coded F (part s at stop))
+countAt F s at stop = countOf at (coded F (between s at stop))
 
 -- a leaf whose body has size bytes from place on, or "2 short: bytes end inside an item"
 abbrev pub bodied : ℕ → Content → ℕ → ℕ → ℕ → Head
@@ -139,25 +139,25 @@ abbrev pub specialHead : List ℕ → ℕ → ℕ → Head
 specialHead s at stop = cond (ltb (at + 1) stop) (secondHead s at stop (getD s (at + 1) 0)) (Refuse why.Short at)
 
 -- the byte b at `at`, by what it begins
-unfoldable pub stands : List ℕ → ℕ → ℕ → ℕ → Marker → Head
-stands s at stop b constant = Leaf (holds.Constant (b + 1)) (at + 1)
-stands s at stop b small = Leaf (holds.Small b) (at + 1)
-stands s at stop b signedBody = integerHead at stop (b - 0x10) true
-stands s at stop b unsignedBody = integerHead at stop (b - 0x18) false
-stands s at stop b float = bodied at (holds.Span kindFloat (at + 1) (floatSize b)) (at + 1) (floatSize b) stop
-stands s at stop b text = textHead at (spellingOf s stop (countAt textLength s at stop))
-stands s at stop b binary = binaryHead at stop (countAt binaryLength s at stop)
-stands s at stop b char = charHead s at stop
-stands s at stop b array = holderHead Array at (countAt arrayCount s at stop)
-stands s at stop b entries = holderHead Record at (countAt recordCount s at stop)
-stands s at stop b map = holderHead Map at (countAt mapCount s at stop)
-stands s at stop b reference = referHead at (countAt referenceNumber s at stop)
-stands s at stop b special = specialHead s at stop
-stands s at stop b nothing = Refuse why.Marker at
+unfoldable pub headBy : List ℕ → ℕ → ℕ → ℕ → Marker → Head
+headBy s at stop b constant = Leaf (holds.Constant (b + 1)) (at + 1)
+headBy s at stop b small = Leaf (holds.Small b) (at + 1)
+headBy s at stop b signedBody = integerHead at stop (b - 0x10) true
+headBy s at stop b unsignedBody = integerHead at stop (b - 0x18) false
+headBy s at stop b float = bodied at (holds.Span kindFloat (at + 1) (floatSize b)) (at + 1) (floatSize b) stop
+headBy s at stop b text = textHead at (spellingOf s stop (countAt textLength s at stop))
+headBy s at stop b binary = binaryHead at stop (countAt binaryLength s at stop)
+headBy s at stop b char = charHead s at stop
+headBy s at stop b array = holderHead Array at (countAt arrayCount s at stop)
+headBy s at stop b entries = holderHead Record at (countAt recordCount s at stop)
+headBy s at stop b map = holderHead Map at (countAt mapCount s at stop)
+headBy s at stop b reference = referHead at (countAt referenceNumber s at stop)
+headBy s at stop b special = specialHead s at stop
+headBy s at stop b nothing = Refuse why.Marker at
 
 -- what stands at `at`
 unfoldable pub headAt : List ℕ → ℕ → ℕ → Head
-headAt s at stop = cond (ltb at stop) (stands s at stop (getD s at 0) (markerOf (getD s at 0))) (Refuse why.Short at)
+headAt s at stop = cond (ltb at stop) (headBy s at stop (getD s at 0) (markerOf (getD s at 0))) (Refuse why.Short at)
 
 -- "A record key is a length and text, with no marker"
 unfoldable pub keyAt : List ℕ → ℕ → ℕ → Spelling

@@ -3,7 +3,7 @@ use Prim.Native.Nat.{ℕ, _+_}
 use mathlib.Core.Bool.{Bool, true, false}
 use mathlib.Core.List.{List, [], _∷_, _++_}
 use lib.ListN.{length, getD, take}
-use Rattle.rows.specs.Table.{Own, rowOf, withEntry, wordsOf}
+use Rattle.rows.specs.Table.{Own, rowOf, aimed, wordsOf}
 use Rattle.format.specs.declared.head.Children.{Children}
 use Rattle.format.specs.declared.head.Children.the-variants.{Plain, Keyed, Entries}
 use Rattle.format.specs.Tree.{Tree, leaf, refer, hold, declare, foreign, damaged, Trees, none, more, size, sizes}
@@ -27,10 +27,6 @@ entries (more t ts) row registry = entries ts (row + size t) (grown true registr
 -- the rows of the entries that are in force in a foreign body, of those around it
 abbrev pub inBody : List ℕ → List ℕ
 inBody registry = take (inForeign (length registry)) registry
-
--- "14 reference: w0 number, w1 row of that entry": what a reference's row says where its entry stands at `entry`; in the tree, 0
-abbrev pub aimed : Own → ℕ → Own
-aimed o entry = withEntry o entry
 
 -- "Rows stand in document order, a holder before its children": the words of a tree whose own row is `row`, where `registry` has the rows of
 -- the entries in force

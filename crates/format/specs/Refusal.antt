@@ -4,13 +4,13 @@ use Rattle.format.specs.declared.refusal.Refusal.{Refusal}
 use Rattle.format.specs.declared.refusal.Refusal.the-variants.{Short, Marker, Huge, Text, Char, NoEntry, Empty, Deep, Extra}
 
 -- "Refusal numbers and their order"
-abbrev pub numberOf : Refusal → ℕ
-numberOf Short = 2  -- "bytes end inside an item"
-numberOf Marker = 3  -- "`0e`, `0f`, or `0d` before other than `0d`, `00`"
-numberOf Huge = 4  -- "length, count or number above 16,777,215"
-numberOf Text = 5  -- "not RFC 3629"
-numberOf Char = 6  -- "not a codepoint allowed"
-numberOf NoEntry = 7  -- "reference not in force"
-numberOf Empty = 8  -- "declaration of 0"
-numberOf Deep = 9  -- "position at depth 33"
-numberOf Extra = 10  -- "bytes after the value"
+abbrev pub refusalNumber : Refusal → ℕ
+refusalNumber Short = 2  -- "bytes end inside an item"
+refusalNumber Marker = 3  -- "`0e`, `0f`, or `0d` before other than `0d`, `00`"
+refusalNumber Huge = 4  -- "length, count or number above 16,777,215"
+refusalNumber Text = 5  -- "not RFC 3629"
+refusalNumber Char = 6  -- "not a codepoint allowed"
+refusalNumber NoEntry = 7  -- "reference not in force"
+refusalNumber Empty = 8  -- "declaration of 0"
+refusalNumber Deep = 9  -- "position at depth 33"
+refusalNumber Extra = 10  -- "bytes after the value"

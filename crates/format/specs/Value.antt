@@ -23,7 +23,7 @@ use Rattle.format.specs.declared.head.Head.{Head}
 use Rattle.format.specs.declared.head.Head.the-variants.{Leaf, Hold, Refer, Declare, Foreign, Refuse}
 use Rattle.format.specs.declared.head.Children.{Children}
 use Rattle.format.specs.declared.head.Children.the-variants.{Plain, Keyed, Entries}
-use Rattle.format.specs.Refusal.{numberOf as refusalNumber}
+use Rattle.format.specs.Refusal.{refusalNumber}
 use Rattle.format.specs.Tree.{Tree, leaf, refer, hold, declare, foreign, damaged, Trees, none, more}
 use Rattle.format.specs.Head.{headAt, keyAt}
 
@@ -33,9 +33,9 @@ pub data Reading : Type 0 where
   wrong : (reason : Refusal) → (place : ℕ) → Reading
 
 -- the same of positions in a row
-pub data Run : Type 0 where
-  ran : (trees : Trees) → (next : ℕ) → Run
-  broke : (reason : Refusal) → (place : ℕ) → Run
+pub data Readings : Type 0 where
+  ran : (trees : Trees) → (next : ℕ) → Readings
+  broke : (reason : Refusal) → (place : ℕ) → Readings
 
 -- how a value position is read one level down: entries in force, place, stop
 abbrev pub Reader : Type 0
@@ -105,25 +105,25 @@ inTurn false R s around at stop = R around at stop
 unfoldable pub child : Children → Reader → List ℕ → ℕ → ℕ → ℕ → ℕ → Reading
 child c R s around i at stop = inTurn (isKey c i) R s (inForce c around i) at stop
 
-abbrev pub ahead : Tree → Run → Run
+abbrev pub ahead : Tree → Readings → Readings
 ahead t (ran ts next) = ran (more t ts) next
 ahead t (broke e place) = broke e place
 
 -- one reading, then what follows at the place behind it
-abbrev pub follow : Reading → (ℕ → Run) → Run
+abbrev pub follow : Reading → (ℕ → Readings) → Readings
 follow (right t next) rest = ahead t (rest next)
 follow (wrong e place) rest = broke e place
 
 -- n children in a row, the first of them number i
-unfoldable pub run : Reader → Children → List ℕ → ℕ → ℕ → ℕ → ℕ → ℕ → Run
-run R c s around i zero at stop = ran none at
-run R c s around i (suc n) at stop = follow (child c R s around i at stop) (λ next. run R c s around (i + 1) n next stop)
+unfoldable pub readings : Reader → Children → List ℕ → ℕ → ℕ → ℕ → ℕ → ℕ → Readings
+readings R c s around i zero at stop = ran none at
+readings R c s around i (suc n) at stop = follow (child c R s around i at stop) (λ next. readings R c s around (i + 1) n next stop)
 
 -- ---- a value position
 
-abbrev pub held : Own → Run → Reading
-held o (ran ts next) = right (hold o ts) next
-held o (broke e place) = wrong e place
+abbrev pub holding : Own → Readings → Reading
+holding o (ran ts next) = right (hold o ts) next
+holding o (broke e place) = wrong e place
 
 -- "7 no entry: reference not in force"
 abbrev pub referred : Bool → ℕ → ℕ → ℕ → Reading
@@ -135,7 +135,7 @@ closed n es (right t next) = right (declare (declarationOwn n) es t) next
 closed n es (wrong e place) = wrong e place
 
 -- "in its value position all n are, and they alone"
-abbrev pub declaring : ℕ → Run → Reader → ℕ → Reading
+abbrev pub declaring : ℕ → Readings → Reader → ℕ → Reading
 declaring n (ran es next) R stop = closed n es (R n next stop)
 declaring n (broke e place) R stop = wrong e place
 
@@ -161,9 +161,9 @@ inForeign around = around
 -- by what stands at the position, with `around` entries in force; R reads one level down
 unfoldable pub step : Reader → List ℕ → ℕ → ℕ → ℕ → Head → Reading
 step R s around at stop (Leaf c next) = right (leaf (leafOwn s c)) next
-step R s around at stop (Hold h n next) = held (holderOwn (kindOf h) n) (run R (childrenOf h) s around 0 (childCount h n) next stop)
+step R s around at stop (Hold h n next) = holding (holderOwn (kindOf h) n) (readings R (childrenOf h) s around 0 (childCount h n) next stop)
 step R s around at stop (Refer n next) = referred (ltb n around) n at next
-step R s around at stop (Declare n next) = declaring n (run R Entries s 0 0 n next stop) R stop
+step R s around at stop (Declare n next) = declaring n (readings R Entries s 0 0 n next stop) R stop
 step R s around at stop (Foreign place size) = framed place size (whole (place + size) (R (inForeign around) place (place + size)))
 step R s around at stop (Refuse e place) = wrong e place
 

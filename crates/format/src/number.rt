@@ -1,6 +1,6 @@
 // The paper's numbers for refusals and answers.
 ghost use mathlib.Core.Path.{_≡_};
-ghost use Rattle.format.specs.Refusal.{numberOf};
+ghost use Rattle.format.specs.Refusal.{refusalNumber};
 ghost use Rattle.format.specs.Answer.{answerNumber, answerBeside};
 use crate::answer::Answer;
 use crate::refusal::Refusal;
@@ -8,7 +8,7 @@ use crate::refusal::Refusal;
 impl Refusal {
     // 2 to 10.
     pub fn number(self) -> u32
-        ensures { λ r. ⌜ r ≡ numberOf self ⌝ }
+        ensures { λ r. ⌜ r ≡ refusalNumber self ⌝ }
     {
         match self {
             Refusal::Short => 2,

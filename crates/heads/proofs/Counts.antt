@@ -11,7 +11,7 @@ use lib.Dec.{leb, eqb}
 use borrow.Author.Tests.{le-leb, lt-leb, lt-ltb, le-ltb, leb-true, leb-false, eq-eqb}
 use Rattle.wide.specs.declared.wide.Wide.{Wide}
 use Rattle.variable.specs.declared.answer.Read.the-variants as read
-use Rattle.wide.specs.Words.{whole, valueOf, wideOf}
+use Rattle.wide.specs.Words.{wideEnd, valueOf, wideOf}
 use Rattle.wide.specs.Family.{Run, behind, hasByte, numberOf, Coded, is, short, other, longer, unmarked, marked, coded}
 use Rattle.wide.specs.Members.{run, none, unsigned, headed, keyLength}
 use Rattle.variable.specs.Answer.{readAs, readOf}
@@ -24,24 +24,24 @@ use Rattle.variable.proofs.Variables.{none-before, every-byte}
 use Rattle.rows.specs.Table.{limit}
 use Rattle.format.specs.declared.refusal.Refusal.the-variants as why
 use Rattle.format.specs.declared.head.Count.the-variants.{Is, Not}
-use Rattle.format.specs.Head.{part, countOf, countAt}
+use Rattle.format.specs.Head.{between, countOf, countAt}
 
 -- ---- parts of the bytes
 
-pub part-cons : (s : List ℕ) (at stop : ℕ) → at < stop → stop ≤ length s → part s at stop ≡ getD s at 0 ∷ part s (at + 1) stop
+pub part-cons : (s : List ℕ) (at stop : ℕ) → at < stop → stop ≤ length s → between s at stop ≡ getD s at 0 ∷ between s (at + 1) stop
 part-cons s at stop l h =
     let k : ℕ = stop - (at + 1) in
     let e : stop - at ≡ suc k = omega arith in
     let n : at + 1 ≡ suc at = omega arith in
     ap₂ take e (drop-cons s at 0 (omega arith)) ∙ ap (λ (x : ℕ). getD s at 0 ∷ take k (drop x s)) (sym n)
 
-part-none : (s : List ℕ) (at stop : ℕ) → stop ≤ at → part s at stop ≡ []
+part-none : (s : List ℕ) (at stop : ℕ) → stop ≤ at → between s at stop ≡ []
 part-none s at stop h = let e : stop - at ≡ 0 = omega arith in ap (λ (k : ℕ). take k (drop at s)) e
 
-pub part-length : (s : List ℕ) (at stop : ℕ) → at ≤ stop → stop ≤ length s → length (part s at stop) ≡ stop - at
+pub part-length : (s : List ℕ) (at stop : ℕ) → at ≤ stop → stop ≤ length s → length (between s at stop) ≡ stop - at
 part-length s at stop l h = length-take-le (stop - at) (drop at s) (omega (arith, length-drop at s))
 
-pub part-bytes : (s : List ℕ) (at stop : ℕ) → ((i : ℕ) → getD s i 0 < 256) → Bytes (part s at stop)
+pub part-bytes : (s : List ℕ) (at stop : ℕ) → ((i : ℕ) → getD s i 0 < 256) → Bytes (between s at stop)
 part-bytes s at stop h = bytes-take (stop - at) (drop at s) (bytes-drop at s (bytes-all s h))
 
 -- ---- a number behind the marker
@@ -61,7 +61,7 @@ pub count-behind : (alone : Run) (m : ℕ) (s : List ℕ) (at stop : ℕ) → at
     → countAt (headed alone (m ∷ [])) s at stop ≡ countAt keyLength s (at + 1) stop
 unfolding countAt coded marked
 count-behind alone m s at stop l h e a =
-    let rest : List ℕ = part s (at + 1) stop in
+    let rest : List ℕ = between s (at + 1) stop in
     ap (λ (p : List ℕ). countOf at (coded (headed alone (m ∷ [])) p)) (part-cons s at stop l h ∙ ap (λ (b : ℕ). b ∷ rest) e)
     ∙ ap (countOf at) (cond-no (hasByte alone m) _ _ a ∙ cond-yes (eqb m m) _ other (eq-eqb m m refl) ∙ ap longer (headed-unmarked alone (m ∷ []) rest ∙ sym (none-before false rest)))
     ∙ count-longer at (coded unsigned rest)
@@ -71,8 +71,8 @@ pub count-behind-two : (m n : ℕ) (s : List ℕ) (at stop : ℕ) → at + 1 < s
     → countAt (headed none (m ∷ n ∷ [])) s at stop ≡ countAt keyLength s (at + 1 + 1) stop
 unfolding countAt coded marked
 count-behind-two m n s at stop l h e f =
-    let rest : List ℕ = part s (at + 1 + 1) stop in
-    let q : part s at stop ≡ m ∷ n ∷ rest =
+    let rest : List ℕ = between s (at + 1 + 1) stop in
+    let q : between s at stop ≡ m ∷ n ∷ rest =
     part-cons s at stop (omega arith) h ∙ ap₂ (λ (b : ℕ) (p : List ℕ). b ∷ p) e (part-cons s (at + 1) stop l h ∙ ap (λ (b : ℕ). b ∷ rest) f) in
     ap (λ (p : List ℕ). countOf at (coded (headed none (m ∷ n ∷ [])) p)) q
     ∙ ap (countOf at) (cond-no (hasByte none m) _ _ (le-ltb (behind 256 0 m) 0 (omega arith))
@@ -95,7 +95,7 @@ count-alone low count from ms s at stop l h a b c d =
     let x : ℕ = getD s at 0 in
     let t : behind 256 low x ≡ x - low = alone-distance low x a (omega arith) in
     let y : hasByte (run low count from) x ≡ true = lt-ltb (behind 256 low x) count (omega arith) in
-    let v : numberOf (run low count from) x ≡ from + (x - low) = ap (λ (o : ℕ). (from + o) % whole) t ∙ mod-eq-of-lt (omega (arith, bytes-whole)) in
+    let v : numberOf (run low count from) x ≡ from + (x - low) = ap (λ (o : ℕ). (from + o) % wideEnd) t ∙ mod-eq-of-lt (omega (arith, bytes-whole)) in
     let small : from + (x - low) ≤ limit = omega arith in
     ap (λ (p : List ℕ). countOf at (coded (headed (run low count from) ms) p)) (part-cons s at stop l h)
     ∙ ap (countOf at) (cond-yes (hasByte (run low count from) x) _ _ y ∙ ap (λ (n : ℕ). is n 1) v)
@@ -110,18 +110,18 @@ length-missing s at stop h = sym (ap (λ (p : List ℕ). countOf at (coded unsig
 pub length-one : (s : List ℕ) (at stop b : ℕ) → at < stop → stop ≤ length s → b ≡ getD s at 0 → b < 248 → Is b (at + 1) ≡ countAt keyLength s at stop
 unfolding countAt unmarked
 length-one s at stop b l h e g =
-    let rest : List ℕ = part s (at + 1) stop in
+    let rest : List ℕ = between s (at + 1) stop in
     let f : behind 256 0 b ≡ b - 0 = alone-distance 0 b (omega arith) (omega arith) in
     let t : hasByte (unsigned .direct) b ≡ true = lt-ltb (behind 256 0 b) 248 (omega arith) in
     let z : 0 + (b - 0) ≡ b = omega arith in
-    let v : numberOf (unsigned .direct) b ≡ b = ap (λ (o : ℕ). (0 + o) % whole) f ∙ ap (λ (o : ℕ). o % whole) z ∙ mod-eq-of-lt (omega (arith, bytes-whole)) in
+    let v : numberOf (unsigned .direct) b ≡ b = ap (λ (o : ℕ). (0 + o) % wideEnd) f ∙ ap (λ (o : ℕ). o % wideEnd) z ∙ mod-eq-of-lt (omega (arith, bytes-whole)) in
     sym (ap (λ (p : List ℕ). countOf at (coded unsigned p)) (part-cons s at stop l h ∙ ap (λ (x : ℕ). x ∷ rest) (sym e))
     ∙ ap (countOf at) (none-before false (b ∷ rest) ∙ cond-yes (hasByte (unsigned .direct) b) _ _ t ∙ ap (λ (n : ℕ). is n 1) v)
     ∙ cond-yes (leb b limit) _ _ (le-leb b limit (omega arith)))
 
 module _ (s : List ℕ) (at stop : ℕ) (bytes : (i : ℕ) → getD s i 0 < 256) where
   abbrev here : List ℕ
-  here = part s at stop
+  here = between s at stop
 
   -- what the reader got is what stands there
   record Got (w : Wide) (used : ℕ) : Type 0 where

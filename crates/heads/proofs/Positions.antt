@@ -33,7 +33,7 @@ use Rattle.format.specs.declared.head.Content.the-variants as holds
 use Rattle.format.specs.declared.head.Holder.the-variants.{Array, Record, Map}
 use Rattle.format.specs.declared.head.Head.{Head}
 use Rattle.format.specs.declared.head.Head.the-variants.{Leaf, Hold, Refer, Declare, Foreign, Refuse}
-use Rattle.format.specs.Head.{Marker, constant, float, text, array, entries, map, binary, special, nothing, signedBody, unsignedBody, small, char, reference, markerOf, countAt, bodied, spelled, spelling, spellingOf, codepoint, charBody, charHead, floatSize, integerHead, textHead, binaryHead, holderHead, referHead, declareHead, foreignHead, specialHead, stands, headAt, keyAt}
+use Rattle.format.specs.Head.{Marker, constant, float, text, array, entries, map, binary, special, nothing, signedBody, unsignedBody, small, char, reference, markerOf, countAt, bodied, spelled, spelling, spellingOf, codepoint, charBody, charHead, floatSize, integerHead, textHead, binaryHead, holderHead, referHead, declareHead, foreignHead, specialHead, headBy, headAt, keyAt}
 use Rattle.heads.proofs.Counts.{count-behind, count-behind-two, count-alone}
 use Rattle.format.proofs.Markers as marker
 
@@ -179,80 +179,80 @@ unfolding headAt
 head-missing s at stop h = sym (cond-no (ltb at stop) _ _ (le-ltb at stop h))
 
 module _ (s : List ℕ) (at stop : ℕ) (l : at < stop) where
-  by : (m : Marker) → markerOf (getD s at 0) ≡ m → stands s at stop (getD s at 0) m ≡ headAt s at stop
+  by : (m : Marker) → markerOf (getD s at 0) ≡ m → headBy s at stop (getD s at 0) m ≡ headAt s at stop
   unfolding headAt
-  by m e = sym (cond-yes (ltb at stop) _ _ (lt-ltb at stop l) ∙ ap (stands s at stop (getD s at 0)) e)
+  by m e = sym (cond-yes (ltb at stop) _ _ (lt-ltb at stop l) ∙ ap (headBy s at stop (getD s at 0)) e)
 
   pub head-constant : (b : ℕ) → b ≡ getD s at 0 → b < 3 → Leaf (holds.Constant (b + 1)) (at + 1) ≡ headAt s at stop
-  unfolding stands
+  unfolding headBy
   head-constant b e h = ap (λ (x : ℕ). Leaf (holds.Constant (x + 1)) (at + 1)) e ∙ by constant (marker.is-constant (getD s at 0) (omega arith))
 
   pub head-float : (b z : ℕ) (r : Head) → b ≡ getD s at 0 → 3 ≤ b → b < 8 → z ≡ floatSize b → r ≡ bodied at (holds.Span kindFloat (at + 1) z) (at + 1) z stop
       → r ≡ headAt s at stop
-  unfolding stands
+  unfolding headBy
   head-float b z r e h g f d =
       d ∙ ap (λ (x : ℕ). bodied at (holds.Span kindFloat (at + 1) x) (at + 1) x stop) (f ∙ ap floatSize e)
       ∙ by float (marker.is-float (getD s at 0) (omega arith) (omega arith))
 
   pub head-signed : (b : ℕ) (r : Head) → b ≡ getD s at 0 → 16 ≤ b → b < 24 → r ≡ integerHead at stop (b - 16) true → r ≡ headAt s at stop
-  unfolding stands
+  unfolding headBy
   head-signed b r e h g d = d ∙ ap (λ (x : ℕ). integerHead at stop (x - 16) true) e ∙ by signedBody (marker.is-signed (getD s at 0) (omega arith) (omega arith))
 
   pub head-unsigned : (b : ℕ) (r : Head) → b ≡ getD s at 0 → 24 ≤ b → b < 32 → r ≡ integerHead at stop (b - 24) false → r ≡ headAt s at stop
-  unfolding stands
+  unfolding headBy
   head-unsigned b r e h g d = d ∙ ap (λ (x : ℕ). integerHead at stop (x - 24) false) e ∙ by unsignedBody (marker.is-unsigned (getD s at 0) (omega arith) (omega arith))
 
   pub head-small : (b : ℕ) → b ≡ getD s at 0 → 32 ≤ b → b < 128 → Leaf (holds.Small (getD s at 0)) (at + 1) ≡ headAt s at stop
-  unfolding stands
+  unfolding headBy
   head-small b e h g = by small (marker.is-small (getD s at 0) (omega arith) (omega arith))
 
   pub head-nothing : (b : ℕ) → b ≡ getD s at 0 → 14 ≤ b → b < 16 → Refuse why.Marker at ≡ headAt s at stop
-  unfolding stands
+  unfolding headBy
   head-nothing b e h g = by nothing (marker.is-nothing (getD s at 0) (omega arith) (omega arith))
 
   pub head-char : (b : ℕ) (r : Head) → b ≡ getD s at 0 → b ≡ 192 → r ≡ charHead s at stop → r ≡ headAt s at stop
-  unfolding stands markerOf
+  unfolding headBy markerOf
   head-char b r e h d = d ∙ by char (ap markerOf (sym e ∙ h))
 
   pub head-special : (b : ℕ) (r : Head) → b ≡ getD s at 0 → b ≡ 13 → r ≡ specialHead s at stop → r ≡ headAt s at stop
-  unfolding stands markerOf
+  unfolding headBy markerOf
   head-special b r e h d = d ∙ by special (ap markerOf (sym e ∙ h))
 
   -- the number stands behind the marker
   module _ (h : stop ≤ length s) where
     pub head-long-text : (b : ℕ) (r : Head) → b ≡ getD s at 0 → b ≡ 8 → r ≡ textHead at (spellingOf s stop (countAt keyLength s (at + 1) stop)) → r ≡ headAt s at stop
-    unfolding stands markerOf behind
+    unfolding headBy markerOf behind
     head-long-text b r e g d =
         d ∙ ap (λ (c : Count). textHead at (spellingOf s stop c)) (sym (count-behind (run 0x80 32 1) 0x08 s at stop l h (sym e ∙ g) refl)) ∙ by text (ap markerOf (sym e ∙ g))
 
     pub head-binary : (b : ℕ) (r : Head) → b ≡ getD s at 0 → b ≡ 12 → r ≡ binaryHead at stop (countAt keyLength s (at + 1) stop) → r ≡ headAt s at stop
-    unfolding stands markerOf behind
+    unfolding headBy markerOf behind
     head-binary b r e g d =
         d ∙ ap (binaryHead at stop) (sym (count-behind none 0x0c s at stop l h (sym e ∙ g) refl)) ∙ by binary (ap markerOf (sym e ∙ g))
 
     pub head-long-array : (b : ℕ) (r : Head) → b ≡ getD s at 0 → b ≡ 9 → r ≡ holderHead Array at (countAt keyLength s (at + 1) stop) → r ≡ headAt s at stop
-    unfolding stands markerOf behind
+    unfolding headBy markerOf behind
     head-long-array b r e g d =
         d ∙ ap (holderHead Array at) (sym (count-behind (run 0xa0 16 1) 0x09 s at stop l h (sym e ∙ g) refl)) ∙ by array (ap markerOf (sym e ∙ g))
 
     pub head-long-record : (b : ℕ) (r : Head) → b ≡ getD s at 0 → b ≡ 10 → r ≡ holderHead Record at (countAt keyLength s (at + 1) stop) → r ≡ headAt s at stop
-    unfolding stands markerOf behind
+    unfolding headBy markerOf behind
     head-long-record b r e g d =
         d ∙ ap (holderHead Record at) (sym (count-behind (run 0xb0 8 1) 0x0a s at stop l h (sym e ∙ g) refl)) ∙ by entries (ap markerOf (sym e ∙ g))
 
     pub head-long-map : (b : ℕ) (r : Head) → b ≡ getD s at 0 → b ≡ 11 → r ≡ holderHead Map at (countAt keyLength s (at + 1) stop) → r ≡ headAt s at stop
-    unfolding stands markerOf behind
+    unfolding headBy markerOf behind
     head-long-map b r e g d =
         d ∙ ap (holderHead Map at) (sym (count-behind (run 0xb8 8 1) 0x0b s at stop l h (sym e ∙ g) refl)) ∙ by map (ap markerOf (sym e ∙ g))
 
     pub head-long-refer : (b : ℕ) (r : Head) → b ≡ getD s at 0 → b ≡ 255 → r ≡ referHead at (countAt keyLength s (at + 1) stop) → r ≡ headAt s at stop
-    unfolding stands markerOf behind
+    unfolding headBy markerOf behind
     head-long-refer b r e g d =
         d ∙ ap (referHead at) (sym (count-behind (run 0xc1 62 0) 0xff s at stop l h (sym e ∙ g) refl)) ∙ by reference (ap markerOf (sym e ∙ g))
 
     -- the number is in the marker
     pub head-text : (b : ℕ) (r : Head) → b ≡ getD s at 0 → 128 ≤ b → b < 160 → r ≡ textHead at (spelling s (at + 1) (b - 127) stop) → r ≡ headAt s at stop
-    unfolding stands
+    unfolding headBy
     head-text b r e g f d =
         let n : b - 127 ≡ 1 + (getD s at 0 - 0x80) = omega arith in
         d ∙ ap (λ (x : ℕ). textHead at (spelling s (at + 1) x stop)) n
@@ -260,7 +260,7 @@ module _ (s : List ℕ) (at stop : ℕ) (l : at < stop) where
         ∙ by text (marker.is-text (getD s at 0) (omega arith) (omega arith))
 
     pub head-array : (b : ℕ) → b ≡ getD s at 0 → 160 ≤ b → b < 176 → Hold Array (b - 159) (at + 1) ≡ headAt s at stop
-    unfolding stands
+    unfolding headBy
     head-array b e g f =
         let n : b - 159 ≡ 1 + (getD s at 0 - 0xa0) = omega arith in
         ap (λ (x : ℕ). Hold Array x (at + 1)) n
@@ -268,7 +268,7 @@ module _ (s : List ℕ) (at stop : ℕ) (l : at < stop) where
         ∙ by array (marker.is-array (getD s at 0) (omega arith) (omega arith))
 
     pub head-record : (b : ℕ) → b ≡ getD s at 0 → 176 ≤ b → b < 184 → Hold Record (b - 175) (at + 1) ≡ headAt s at stop
-    unfolding stands
+    unfolding headBy
     head-record b e g f =
         let n : b - 175 ≡ 1 + (getD s at 0 - 0xb0) = omega arith in
         ap (λ (x : ℕ). Hold Record x (at + 1)) n
@@ -276,7 +276,7 @@ module _ (s : List ℕ) (at stop : ℕ) (l : at < stop) where
         ∙ by entries (marker.is-entries (getD s at 0) (omega arith) (omega arith))
 
     pub head-map : (b : ℕ) → b ≡ getD s at 0 → 184 ≤ b → b < 192 → Hold Map (b - 183) (at + 1) ≡ headAt s at stop
-    unfolding stands
+    unfolding headBy
     head-map b e g f =
         let n : b - 183 ≡ 1 + (getD s at 0 - 0xb8) = omega arith in
         ap (λ (x : ℕ). Hold Map x (at + 1)) n
@@ -284,7 +284,7 @@ module _ (s : List ℕ) (at stop : ℕ) (l : at < stop) where
         ∙ by map (marker.is-map (getD s at 0) (omega arith) (omega arith))
 
     pub head-refer : (b : ℕ) → b ≡ getD s at 0 → 193 ≤ b → b < 255 → Refer (b - 193) (at + 1) ≡ headAt s at stop
-    unfolding stands
+    unfolding headBy
     head-refer b e g f =
         let n : b - 193 ≡ 0 + (getD s at 0 - 0xc1) = omega arith in
         ap (λ (x : ℕ). Refer x (at + 1)) n

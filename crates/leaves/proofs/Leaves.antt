@@ -15,16 +15,16 @@ use Rattle.rows.specs.Kinds.{kindSmall, kindSigned, kindUnsigned, constantOwn, 
 use Rattle.format.specs.declared.head.Content.{Content}
 use Rattle.format.specs.declared.head.Content.the-variants.{Constant, Small, Integer, Span, Char}
 use Rattle.format.specs.Value.{integerOwn, integerKind, leafOwn}
-use Rattle.leaves.specs.Contracts.{Body, Part, Sane}
+use Rattle.leaves.specs.Contracts.{BodyInside, SpanInside, ContentInside}
 
 -- ---- what is asked
 
-module _ (s : List ℕ) (c : Content) (sane : Sane s c) where
-  pub sane-body : (signed : Bool) (place size : ℕ) → c ≡ Integer signed place size → Body s place size
-  sane-body signed place size e = subst (Sane s) e sane
+module _ (s : List ℕ) (c : Content) (sane : ContentInside s c) where
+  pub sane-body : (signed : Bool) (place size : ℕ) → c ≡ Integer signed place size → BodyInside s place size
+  sane-body signed place size e = subst (ContentInside s) e sane
 
-  pub sane-part : (kind place size : ℕ) → c ≡ Span kind place size → Part place size
-  sane-part kind place size e = subst (Sane s) e sane
+  pub sane-part : (kind place size : ℕ) → c ≡ Span kind place size → SpanInside place size
+  sane-part kind place size e = subst (ContentInside s) e sane
 
 -- ---- an integer's kind
 

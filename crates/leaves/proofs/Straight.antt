@@ -26,7 +26,7 @@ use Rattle.format.specs.Head.{countAt, bodied, spelling, spellingOf, integerHea
 use Rattle.format.specs.Value.{integerOwn, integerKind, leafOwn}
 use Rattle.heads.proofs.Counts.{length-one}
 use Rattle.heads.proofs.Positions as positions
-use Rattle.leaves.specs.Contracts.{Tried}
+use Rattle.leaves.specs.Contracts.{LeafTried}
 use Rattle.leaves.proofs.Leaves.{small-row, integer-row, span-row}
 
 -- ---- what a body asks
@@ -40,12 +40,12 @@ body-few rank size h e = omega (arith, size-high rank h)
 -- ---- one row
 
 -- nothing is laid
-pub kept : (h : Head) (s table : List ℕ) (row : ℕ) → Tried h s table row table 0
+pub kept : (h : Head) (s table : List ℕ) (row : ℕ) → LeafTried h s table row table 0
 kept h s table row = record { kept = λ e. refl; laid = λ n. absurd (n refl) }
 
 -- the row q of the leaf c is laid, and the leaf ends at a place that is not 0
 laid : (h : Head) (s table : List ℕ) (row : ℕ) (table' : List ℕ) (next : ℕ) (c : Content) (q : Row) → h ≡ Leaf c next → q ≡ leafRow (leafOwn s c) row
-    → table' ≡ sets table (wordsPerRow * row) (wordsOf q) → 0 < next → Tried h s table row table' next
+    → table' ≡ sets table (wordsPerRow * row) (wordsOf q) → 0 < next → LeafTried h s table row table' next
 laid h s table row table' next c q e w f p =
     record {
       kept = λ z. absurd (let n : ⊥ = omega arith in n);
@@ -53,33 +53,33 @@ laid h s table row table' next c q e w f p =
     }
 
 -- what another head of the same place was tried for
-pub tried-as : (h h' : Head) (s table : List ℕ) (row : ℕ) (table' : List ℕ) (r : ℕ) → h ≡ h' → Tried h s table row table' r → Tried h' s table row table' r
-tried-as h h' s table row table' r e t = subst (λ (x : Head). Tried x s table row table' r) e t
+pub tried-as : (h h' : Head) (s table : List ℕ) (row : ℕ) (table' : List ℕ) (r : ℕ) → h ≡ h' → LeafTried h s table row table' r → LeafTried h' s table row table' r
+tried-as h h' s table row table' r e t = subst (λ (x : Head). LeafTried x s table row table' r) e t
 
 module _ (s table : List ℕ) (at row : ℕ) (table' : List ℕ) (q : Row) (f : table' ≡ sets table (wordsPerRow * row) (wordsOf q)) where
   -- a text, or a binary
   module _ (place size stop : ℕ) (l : at < place) (h : size ≤ stop - place) where
     pub text-laid : q ≡ leafRow (spanOwn kindText place size) row → (b : Bool) → b ≡ wellFormed (textOf (take (place + size - place) (drop place s))) → b ≡ true
-        → Tried (textHead at (spelling s place size stop)) s table row table' (place + size)
+        → LeafTried (textHead at (spelling s place size stop)) s table row table' (place + size)
     text-laid r b e t =
         laid (textHead at (spelling s place size stop)) s table row table' (place + size) (Span kindText place size) q
         (sym (ap (textHead at) (positions.spelling-well s place size stop b h e t))) (span-row s (Span kindText place size) row q kindText place size refl r) f (omega arith)
 
-    pub binary-laid : q ≡ leafRow (spanOwn kindBinary place size) row → Tried (bodied at (Span kindBinary place size) place size stop) s table row table' (place + size)
+    pub binary-laid : q ≡ leafRow (spanOwn kindBinary place size) row → LeafTried (bodied at (Span kindBinary place size) place size stop) s table row table' (place + size)
     binary-laid r =
         laid (bodied at (Span kindBinary place size) place size stop) s table row table' (place + size) (Span kindBinary place size) q
         (sym (positions.body-there at place size stop (Span kindBinary place size) h)) (span-row s (Span kindBinary place size) row q kindBinary place size refl r) f (omega arith)
 
   pub integer-laid : (stop rank size : ℕ) (signed : Bool) (w : Wide) (kind : ℕ) → size ≡ sizeAt rank → size ≤ stop - (at + 1)
       → w ≡ wideOf (bodyValue signed (take size (drop (at + 1) s))) → kind ≡ integerKind signed (valueOf w)
-      → q ≡ leafRow (integerOwn kind w) row → Tried (integerHead at stop rank signed) s table row table' (at + 1 + size)
+      → q ≡ leafRow (integerOwn kind w) row → LeafTried (integerHead at stop rank signed) s table row table' (at + 1 + size)
   integer-laid stop rank size signed w kind z h v k r =
       rw (← z) (laid (bodied at (Integer signed (at + 1) size) (at + 1) size stop) s table row table' (at + 1 + size) (Integer signed (at + 1) size) q
       (sym (positions.body-there at (at + 1) size stop (Integer signed (at + 1) size) h))
       (integer-row s (Integer signed (at + 1) size) row q signed (at + 1) size w kind refl v k r) f (omega arith))
 
   pub small-laid : (m : ℕ) (w : Wide) → w ≡ wideOf (numberOf (integerSigned .direct) m) → q ≡ leafRow (integerOwn kindSmall w) row
-      → Tried (Leaf (Small m) (at + 1)) s table row table' (at + 1)
+      → LeafTried (Leaf (Small m) (at + 1)) s table row table' (at + 1)
   small-laid m w v r =
       laid (Leaf (Small m) (at + 1)) s table row table' (at + 1) (Small m) q refl (small-row s (Small m) row q m w refl v r) f (omega arith)
 
@@ -87,17 +87,17 @@ module _ (s table : List ℕ) (at row : ℕ) (table' : List ℕ) (q : Row) (f : 
 
 module _ (s : List ℕ) (at stop : ℕ) (l : at < stop) (h : stop ≤ length s) (table : List ℕ) (row : ℕ) (table' : List ℕ) (r : ℕ) where
   module _ (b m : ℕ) (e : m ≡ getD s at 0) (g : b ≡ m) where
-    pub signed-tried : 16 ≤ b → b < 24 → Tried (integerHead at stop (b - 16) true) s table row table' r → Tried (headAt s at stop) s table row table' r
+    pub signed-tried : 16 ≤ b → b < 24 → LeafTried (integerHead at stop (b - 16) true) s table row table' r → LeafTried (headAt s at stop) s table row table' r
     signed-tried low high t = tried-as _ _ s table row table' r (positions.head-signed s at stop l b _ (g ∙ e) low high refl) t
 
-    pub unsigned-tried : 24 ≤ b → b < 32 → Tried (integerHead at stop (b - 24) false) s table row table' r → Tried (headAt s at stop) s table row table' r
+    pub unsigned-tried : 24 ≤ b → b < 32 → LeafTried (integerHead at stop (b - 24) false) s table row table' r → LeafTried (headAt s at stop) s table row table' r
     unsigned-tried low high t = tried-as _ _ s table row table' r (positions.head-unsigned s at stop l b _ (g ∙ e) low high refl) t
 
-    pub small-tried : 32 ≤ b → b < 128 → Tried (Leaf (Small m) (at + 1)) s table row table' r → Tried (headAt s at stop) s table row table' r
+    pub small-tried : 32 ≤ b → b < 128 → LeafTried (Leaf (Small m) (at + 1)) s table row table' r → LeafTried (headAt s at stop) s table row table' r
     small-tried low high t =
         tried-as _ _ s table row table' r (ap (λ (x : ℕ). Leaf (Small x) (at + 1)) e ∙ positions.head-small s at stop l b (g ∙ e) low high) t
 
-    pub text-tried : 128 ≤ b → b < 160 → Tried (textHead at (spelling s (at + 1) (b - 127) stop)) s table row table' r → Tried (headAt s at stop) s table row table' r
+    pub text-tried : 128 ≤ b → b < 160 → LeafTried (textHead at (spelling s (at + 1) (b - 127) stop)) s table row table' r → LeafTried (headAt s at stop) s table row table' r
     text-tried low high t = tried-as _ _ s table row table' r (positions.head-text s at stop l h b _ (g ∙ e) low high refl) t
 
   -- the length is one byte
@@ -105,12 +105,12 @@ module _ (s : List ℕ) (at stop : ℕ) (l : at < stop) (h : stop ≤ length s) 
     count : countAt keyLength s (at + 1) stop ≡ Is n (at + 2)
     count = let p : at + 1 + 1 ≡ at + 2 = omega arith in sym (length-one s (at + 1) stop n (omega arith) h c (omega arith)) ∙ ap (Is n) p
 
-    pub long-text-tried : m ≡ 8 → Tried (textHead at (spelling s (at + 2) n stop)) s table row table' r → Tried (headAt s at stop) s table row table' r
+    pub long-text-tried : m ≡ 8 → LeafTried (textHead at (spelling s (at + 2) n stop)) s table row table' r → LeafTried (headAt s at stop) s table row table' r
     long-text-tried g t =
         tried-as _ _ s table row table' r
         (ap (λ (c : Count). textHead at (spellingOf s stop c)) (sym count) ∙ positions.head-long-text s at stop l h m _ e g refl) t
 
-    pub binary-tried : m ≡ 12 → Tried (bodied at (Span kindBinary (at + 2) n) (at + 2) n stop) s table row table' r → Tried (headAt s at stop) s table row table' r
+    pub binary-tried : m ≡ 12 → LeafTried (bodied at (Span kindBinary (at + 2) n) (at + 2) n stop) s table row table' r → LeafTried (headAt s at stop) s table row table' r
     binary-tried g t =
         tried-as _ _ s table row table' r
         (ap (binaryHead at stop) (sym count) ∙ positions.head-binary s at stop l h m _ e g refl) t

@@ -13,30 +13,30 @@ use Rattle.format.specs.declared.head.Head.the-variants.{Leaf}
 use Rattle.format.specs.Value.{leafOwn}
 
 -- "bodies of 1, 2, 3, 4, 6, 8, 12, 16 bytes": the body lies in the bytes s
-pub record Body (s : List ℕ) (place size : ℕ) : Type 0 where
+pub record BodyInside (s : List ℕ) (place size : ℕ) : Type 0 where
   pub some : 1 ≤ size
   pub few : size ≤ 16
   pub inside : place + size ≤ length s
 
 -- "data are at most 16,777,215 bytes": a place and a size in them
-pub record Part (place size : ℕ) : Type 0 where
+pub record SpanInside (place size : ℕ) : Type 0 where
   pub place-low : place ≤ limit
   pub size-low : size ≤ limit
 
-abbrev pub Sane : List ℕ → Content → Type 0
-Sane s (Constant kind) = Unit {0}
-Sane s (Small marker) = Unit {0}
-Sane s (Integer signed place size) = Body s place size
-Sane s (Span kind place size) = Part place size
-Sane s (Char codepoint) = Unit {0}
+abbrev pub ContentInside : List ℕ → Content → Type 0
+ContentInside s (Constant kind) = Unit {0}
+ContentInside s (Small marker) = Unit {0}
+ContentInside s (Integer signed place size) = BodyInside s place size
+ContentInside s (Span kind place size) = SpanInside place size
+ContentInside s (Char codepoint) = Unit {0}
 
 -- the head h is a leaf that ends at `next`, and its row is laid
-pub record Laid (h : Head) (s table : List ℕ) (row : ℕ) (table' : List ℕ) (next : ℕ) : Type 0 where
+pub record LeafLaid (h : Head) (s table : List ℕ) (row : ℕ) (table' : List ℕ) (next : ℕ) : Type 0 where
   pub content : Content
   pub is : h ≡ Leaf content next
   pub put : table' ≡ sets table (wordsPerRow * row) (wordsOf (leafRow (leafOwn s content) row))
 
 -- r is 0 and nothing is laid, or r is where the leaf ends
-pub record Tried (h : Head) (s table : List ℕ) (row : ℕ) (table' : List ℕ) (r : ℕ) : Type 0 where
+pub record LeafTried (h : Head) (s table : List ℕ) (row : ℕ) (table' : List ℕ) (r : ℕ) : Type 0 where
   pub kept : r ≡ 0 → table' ≡ table
-  pub laid : (r ≡ 0 → ⊥) → Laid h s table row table' r
+  pub laid : (r ≡ 0 → ⊥) → LeafLaid h s table row table' r

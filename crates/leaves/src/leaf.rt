@@ -5,7 +5,7 @@ ghost use Rattle.wide.specs.Words.{valueOf};
 ghost use Rattle.rows.specs.Table.{limit};
 ghost use Rattle.rows.specs.Kinds.{leafRow};
 ghost use Rattle.format.specs.Value.{integerOwn, integerKind, leafOwn};
-ghost use Rattle.leaves.specs.Contracts.{Sane};
+ghost use Rattle.leaves.specs.Contracts.{ContentInside};
 use format::Content;
 use rows::Row;
 use wide::Wide;
@@ -33,7 +33,7 @@ pub fn integer_row(kind: u32, row: usize, w: Wide) -> Row
 
 // Its words are put together here and in plain.rt: measuring needs none.
 pub fn leaf_row(s: &[u8], row: usize, c: Content) -> Row
-    requires { ⌜ (row < limit) × Sane (now s) c ⌝ }
+    requires { ⌜ (row < limit) × ContentInside (now s) c ⌝ }
     ensures { λ r. ⌜ r ≡ leafRow (leafOwn (now (s .entry)) c) row ⌝ }
 {
     match c {

@@ -8,7 +8,7 @@ ghost use Rattle.rows.specs.Kinds.{kindBinary};
 ghost use Rattle.format.specs.declared.head.Content.the-variants.{Small, Span};
 ghost use Rattle.format.specs.declared.head.Head.the-variants.{Leaf};
 ghost use Rattle.format.specs.Head.{bodied, spelling, textHead, integerHead, headAt};
-ghost use Rattle.leaves.specs.Contracts.{Tried};
+ghost use Rattle.leaves.specs.Contracts.{LeafTried};
 use crate::leaf::integer_kind;
 use crate::leaf::integer_row;
 use rows::Row;
@@ -26,7 +26,7 @@ fn lay_text(
 ) -> usize
     requires { ⌜ (at < place) × (place ≤ stop) × (stop ≤ length (now s)) × (length (now s) ≤ limit) ⌝ }
     requires { ⌜ (row < lent (now table)) × (row < limit) ⌝ }
-    ensures { λ r. ⌜ Tried (textHead at (spelling (now (s .entry)) place size stop)) (now (s .entry)) (now (table .entry)) row (now (table .exit)) r ⌝ }
+    ensures { λ r. ⌜ LeafTried (textHead at (spelling (now (s .entry)) place size stop)) (now (s .entry)) (now (table .entry)) row (now (table .exit)) r ⌝ }
 {
     if stop - place < size {
         return 0;
@@ -51,7 +51,7 @@ fn lay_binary(
 ) -> usize
     requires { ⌜ (at < place) × (place ≤ stop) × (stop ≤ length (now s)) × (length (now s) ≤ limit) ⌝ }
     requires { ⌜ (row < lent (now table)) × (row < limit) ⌝ }
-    ensures { λ r. ⌜ Tried (bodied at (Span kindBinary place size) place size stop) (now (s .entry)) (now (table .entry)) row (now (table .exit)) r ⌝ }
+    ensures { λ r. ⌜ LeafTried (bodied at (Span kindBinary place size) place size stop) (now (s .entry)) (now (table .entry)) row (now (table .exit)) r ⌝ }
 {
     if stop - place < size {
         return 0;
@@ -72,7 +72,7 @@ fn lay_integer(
 ) -> usize
     requires { ⌜ (at < stop) × (stop ≤ length (now s)) × (length (now s) ≤ limit) × (rank < 8) ⌝ }
     requires { ⌜ (row < lent (now table)) × (row < limit) ⌝ }
-    ensures { λ r. ⌜ Tried (integerHead at stop rank signed) (now (s .entry)) (now (table .entry)) row (now (table .exit)) r ⌝ }
+    ensures { λ r. ⌜ LeafTried (integerHead at stop rank signed) (now (s .entry)) (now (table .entry)) row (now (table .exit)) r ⌝ }
 {
     let place = at + 1;
     let size = size_at(rank);
@@ -89,7 +89,7 @@ fn lay_integer(
 fn lay_small(table: &mut [u32], s: &[u8], at: usize, marker: u8, row: usize) -> usize
     requires { ⌜ (at < length (now s)) × (length (now s) ≤ limit) ⌝ }
     requires { ⌜ (row < lent (now table)) × (row < limit) ⌝ }
-    ensures { λ r. ⌜ Tried (Leaf (Small marker) (at + 1)) (now (s .entry)) (now (table .entry)) row (now (table .exit)) r ⌝ }
+    ensures { λ r. ⌜ LeafTried (Leaf (Small marker) (at + 1)) (now (s .entry)) (now (table .entry)) row (now (table .exit)) r ⌝ }
 {
     let w = wide::integer::small(marker);
     rows::lay(table, row, integer_row(Row::SMALL, row, w));
@@ -100,7 +100,7 @@ fn lay_small(table: &mut [u32], s: &[u8], at: usize, marker: u8, row: usize) -> 
 fn lay_short(table: &mut [u32], s: &[u8], at: usize, stop: usize, marker: u8, row: usize) -> usize
     requires { ⌜ (at < stop) × (stop ≤ length (now s)) × (length (now s) ≤ limit) × (marker ≡ getD (now s) at 0) ⌝ }
     requires { ⌜ (row < lent (now table)) × (row < limit) ⌝ }
-    ensures { λ r. ⌜ Tried (headAt (now (s .entry)) at stop) (now (s .entry)) (now (table .entry)) row (now (table .exit)) r ⌝ }
+    ensures { λ r. ⌜ LeafTried (headAt (now (s .entry)) at stop) (now (s .entry)) (now (table .entry)) row (now (table .exit)) r ⌝ }
 {
     let place = at + 2;
     if stop < place {
@@ -123,7 +123,7 @@ fn lay_short(table: &mut [u32], s: &[u8], at: usize, stop: usize, marker: u8, ro
 pub fn lay_plain(table: &mut [u32], s: &[u8], at: usize, stop: usize, row: usize) -> usize
     requires { ⌜ (at < stop) × (stop ≤ length (now s)) × (length (now s) ≤ limit) ⌝ }
     requires { ⌜ (row < lent (now table)) × (row < limit) ⌝ }
-    ensures { λ r. ⌜ Tried (headAt (now (s .entry)) at stop) (now (s .entry)) (now (table .entry)) row (now (table .exit)) r ⌝ }
+    ensures { λ r. ⌜ LeafTried (headAt (now (s .entry)) at stop) (now (s .entry)) (now (table .entry)) row (now (table .exit)) r ⌝ }
 {
     let marker = s[at];
     let b = heads::index(marker);

@@ -23,13 +23,13 @@ use Rattle.format.specs.declared.head.Children.{Children}
 use Rattle.format.specs.declared.head.Children.the-variants.{Entries}
 use Rattle.format.specs.Tree.{Tree, leaf, refer, Trees, size, sizes}
 use Rattle.format.specs.Head.{headAt, keyAt}
-use Rattle.format.specs.Value.{Reading, right, wrong, Run, ran, broke, Reader, leafOwn, kindOf, childCount, childrenOf, keyed, child, isKey, inForce, ahead, follow, run, held, closed, declaring, whole, framed, inForeign, value, document}
+use Rattle.format.specs.Value.{Reading, right, wrong, Readings, ran, broke, Reader, leafOwn, kindOf, childCount, childrenOf, keyed, child, isKey, inForce, ahead, follow, readings, holding, closed, declaring, whole, framed, inForeign, value, document}
 use Rattle.format.proofs.Steps as clauses
 use Rattle.format.proofs.Heads.{hold-after, declare-after, foreign-after, foreign-within, key-within}
 use Rattle.format.proofs.Values.{ReadAt, RunAt, value-read, values-run, values-child}
 use Rattle.measure.specs.declared.measured.Measured.{Measured}
 use Rattle.measure.specs.declared.measured.Measured.the-variants.{Right, Wrong}
-use Rattle.measure.specs.Measured.{measuredOf, measuredRun}
+use Rattle.measure.specs.Measured.{measuredOf, measuredAll}
 
 -- ---- rows and places stay within the bytes
 
@@ -40,7 +40,7 @@ read-bound at stop (right t m) k r n e =
     (omega (arith, k .rows), omega (arith, k .within))
 read-bound at stop (wrong x p) k r n e = absurd (let z : _≡_ {A = ℕ} 0 1 = cc in omega arith)
 
-run-bound : (at stop : ℕ) (y : Run) → RunAt at stop y → (r n : ℕ) → measuredRun y ≡ Right r n → (at + r ≤ n) × (n ≤ stop)
+run-bound : (at stop : ℕ) (y : Readings) → RunAt at stop y → (r n : ℕ) → measuredAll y ≡ Right r n → (at + r ≤ n) × (n ≤ stop)
 run-bound at stop (ran ts m) k r n e =
     let h : sizes ts ≡ r = cc in
     let i : m ≡ n = cc in
@@ -49,12 +49,12 @@ run-bound at stop (broke x p) k r n e = absurd (let z : _≡_ {A = ℕ} 0 1 = cc
 
 -- ---- readings by what is measured of them
 
-held-right : (o : Own) (y : Run) (r n : ℕ) → measuredRun y ≡ Right r n → Right (1 + r) n ≡ measuredOf (held o y)
+held-right : (o : Own) (y : Readings) (r n : ℕ) → measuredAll y ≡ Right r n → Right (1 + r) n ≡ measuredOf (holding o y)
 unfolding size
 held-right o (ran ts m) r n e = cc
 held-right o (broke x p) r n e = cc
 
-held-wrong : (o : Own) (y : Run) (e : Refusal) (p : ℕ) → measuredRun y ≡ Wrong e p → Wrong e p ≡ measuredOf (held o y)
+held-wrong : (o : Own) (y : Readings) (e : Refusal) (p : ℕ) → measuredAll y ≡ Wrong e p → Wrong e p ≡ measuredOf (holding o y)
 held-wrong o (ran ts m) e p h = cc
 held-wrong o (broke x q) e p h = cc
 
@@ -67,7 +67,7 @@ closed-wrong : (c : ℕ) (es : Trees) (x : Reading) (e : Refusal) (p : ℕ) → 
 closed-wrong c es (right t m) e p h = cc
 closed-wrong c es (wrong x q) e p h = cc
 
-declaring-right : (c : ℕ) (y : Run) (R : Reader) (stop a m r n : ℕ) → measuredRun y ≡ Right a m → measuredOf (R c m stop) ≡ Right r n
+declaring-right : (c : ℕ) (y : Readings) (R : Reader) (stop a m r n : ℕ) → measuredAll y ≡ Right a m → measuredOf (R c m stop) ≡ Right r n
     → Right (1 + (a + r)) n ≡ measuredOf (declaring c y R stop)
 declaring-right c (ran es q) R stop a m r n e g =
     let h : sizes es ≡ a = cc in
@@ -75,11 +75,11 @@ declaring-right c (ran es q) R stop a m r n e g =
     rw (← h) (closed-right c es (R c q stop) r n (rw i at g))
 declaring-right c (broke x p) R stop a m r n e g = cc
 
-declaring-wrong : (c : ℕ) (y : Run) (R : Reader) (stop : ℕ) (e : Refusal) (p : ℕ) → measuredRun y ≡ Wrong e p → Wrong e p ≡ measuredOf (declaring c y R stop)
+declaring-wrong : (c : ℕ) (y : Readings) (R : Reader) (stop : ℕ) (e : Refusal) (p : ℕ) → measuredAll y ≡ Wrong e p → Wrong e p ≡ measuredOf (declaring c y R stop)
 declaring-wrong c (ran es q) R stop e p h = cc
 declaring-wrong c (broke x q) R stop e p h = cc
 
-declaring-wrong-last : (c : ℕ) (y : Run) (R : Reader) (stop a m : ℕ) (e : Refusal) (p : ℕ) → measuredRun y ≡ Right a m → measuredOf (R c m stop) ≡ Wrong e p
+declaring-wrong-last : (c : ℕ) (y : Readings) (R : Reader) (stop a m : ℕ) (e : Refusal) (p : ℕ) → measuredAll y ≡ Right a m → measuredOf (R c m stop) ≡ Wrong e p
     → Wrong e p ≡ measuredOf (declaring c y R stop)
 declaring-wrong-last c (ran es q) R stop a m e p h g =
     let i : m ≡ q = cc in
@@ -149,11 +149,11 @@ module _ (s : List ℕ) (d k at stop : ℕ) (h : Head) (head : h ≡ headAt s at
   value-refuse x p e = by (wrong x p) (clauses.value-refuse (d - 1) s k at stop h head x p e) (Wrong x p) refl
 
   pub value-hold : (x : Holder) (c n : ℕ) → h ≡ Hold x c n → (m : Measured)
-      → m ≡ measuredOf (held (holderOwn (kindOf x) c) (run (value (d - 1) s) (childrenOf x) s k 0 (childCount x c) n stop)) → m ≡ measuredOf (value d s k at stop)
+      → m ≡ measuredOf (holding (holderOwn (kindOf x) c) (readings (value (d - 1) s) (childrenOf x) s k 0 (childCount x c) n stop)) → m ≡ measuredOf (value d s k at stop)
   value-hold x c n e m f = by _ (clauses.value-hold (d - 1) s k at stop h head x c n e) m f
 
   pub value-declare : (c n : ℕ) → h ≡ Declare c n → (m : Measured)
-      → m ≡ measuredOf (declaring c (run (value (d - 1) s) Entries s 0 0 c n stop) (value (d - 1) s) stop) → m ≡ measuredOf (value d s k at stop)
+      → m ≡ measuredOf (declaring c (readings (value (d - 1) s) Entries s 0 0 c n stop) (value (d - 1) s) stop) → m ≡ measuredOf (value d s k at stop)
   value-declare c n e m f = by _ (clauses.value-declare (d - 1) s k at stop h head c n e) m f
 
   pub value-foreign : (p z : ℕ) → h ≡ Foreign p z → (m : Measured) → m ≡ measuredOf (framed p z (whole (p + z) (value (d - 1) s (inForeign k) p (p + z)))) → m ≡ measuredOf (value d s k at stop)
@@ -176,9 +176,9 @@ module _ (s : List ℕ) (at stop : ℕ) (h : Head) (head : h ≡ headAt s at sto
 
 -- ---- children, from `at` on
 
-module _ (s : List ℕ) (d at stop k : ℕ) (c : Children) (count : ℕ) (m : Measured) (children : m ≡ measuredRun (run (value d s) c s k 0 count at stop)) where
+module _ (s : List ℕ) (d at stop k : ℕ) (c : Children) (count : ℕ) (m : Measured) (children : m ≡ measuredAll (readings (value d s) c s k 0 count at stop)) where
   bound : (a q : ℕ) → m ≡ Right a q → at ≤ stop → (at + a ≤ q) × (q ≤ stop)
-  bound a q f h = run-bound at stop (run (value d s) c s k 0 count at stop) (values-run d c s k 0 count at stop h) a q (cc)
+  bound a q f h = run-bound at stop (readings (value d s) c s k 0 count at stop) (values-run d c s k 0 count at stop h) a q (cc)
 
   module _ (a q : ℕ) (f : m ≡ Right a q) (pos : 0 < at) (h : at ≤ stop) (fit : Fits w64 stop) where
     pub holder-fits : Fits w64 (1 + a)
@@ -198,26 +198,26 @@ module _ (s : List ℕ) (d at stop k : ℕ) (c : Children) (count : ℕ) (m : Me
       whole-fits = omega (arith, sum)
 
   module _ (x : Holder) (w : ℕ) (ec : c ≡ childrenOf x) (en : count ≡ childCount x w) where
-    same : held (holderOwn (kindOf x) w) (run (value d s) c s k 0 count at stop) ≡ held (holderOwn (kindOf x) w) (run (value d s) (childrenOf x) s k 0 (childCount x w) at stop)
-    same = ap₂ (λ (y : Children) (z : ℕ). held (holderOwn (kindOf x) w) (run (value d s) y s k 0 z at stop)) ec en
+    same : holding (holderOwn (kindOf x) w) (readings (value d s) c s k 0 count at stop) ≡ holding (holderOwn (kindOf x) w) (readings (value d s) (childrenOf x) s k 0 (childCount x w) at stop)
+    same = ap₂ (λ (y : Children) (z : ℕ). holding (holderOwn (kindOf x) w) (readings (value d s) y s k 0 z at stop)) ec en
 
-    pub hold-right : (r n : ℕ) → m ≡ Right r n → Right (1 + r) n ≡ measuredOf (held (holderOwn (kindOf x) w) (run (value d s) (childrenOf x) s k 0 (childCount x w) at stop))
-    hold-right r n e = held-right (holderOwn (kindOf x) w) (run (value d s) c s k 0 count at stop) r n (cc) ∙ ap measuredOf same
+    pub hold-right : (r n : ℕ) → m ≡ Right r n → Right (1 + r) n ≡ measuredOf (holding (holderOwn (kindOf x) w) (readings (value d s) (childrenOf x) s k 0 (childCount x w) at stop))
+    hold-right r n e = held-right (holderOwn (kindOf x) w) (readings (value d s) c s k 0 count at stop) r n (cc) ∙ ap measuredOf same
 
-    pub hold-wrong : (y : Refusal) (p : ℕ) → m ≡ Wrong y p → Wrong y p ≡ measuredOf (held (holderOwn (kindOf x) w) (run (value d s) (childrenOf x) s k 0 (childCount x w) at stop))
-    hold-wrong y p e = held-wrong (holderOwn (kindOf x) w) (run (value d s) c s k 0 count at stop) y p (cc) ∙ ap measuredOf same
+    pub hold-wrong : (y : Refusal) (p : ℕ) → m ≡ Wrong y p → Wrong y p ≡ measuredOf (holding (holderOwn (kindOf x) w) (readings (value d s) (childrenOf x) s k 0 (childCount x w) at stop))
+    hold-wrong y p e = held-wrong (holderOwn (kindOf x) w) (readings (value d s) c s k 0 count at stop) y p (cc) ∙ ap measuredOf same
 
-  pub entry-wrong : (e : ℕ) (x : Refusal) (p : ℕ) → m ≡ Wrong x p → Wrong x p ≡ measuredOf (declaring e (run (value d s) c s k 0 count at stop) (value d s) stop)
-  entry-wrong e x p f = declaring-wrong e (run (value d s) c s k 0 count at stop) (value d s) stop x p (cc)
+  pub entry-wrong : (e : ℕ) (x : Refusal) (p : ℕ) → m ≡ Wrong x p → Wrong x p ≡ measuredOf (declaring e (readings (value d s) c s k 0 count at stop) (value d s) stop)
+  entry-wrong e x p f = declaring-wrong e (readings (value d s) c s k 0 count at stop) (value d s) stop x p (cc)
 
   module _ (a q : ℕ) (f : m ≡ Right a q) (e : ℕ) (v : Measured) (read : v ≡ measuredOf (value d s e q stop)) where
-    pub declare-right : (r n : ℕ) → v ≡ Right r n → Right (1 + (a + r)) n ≡ measuredOf (declaring e (run (value d s) c s k 0 count at stop) (value d s) stop)
-    declare-right r n g = declaring-right e (run (value d s) c s k 0 count at stop) (value d s) stop a q r n (cc) (cc)
+    pub declare-right : (r n : ℕ) → v ≡ Right r n → Right (1 + (a + r)) n ≡ measuredOf (declaring e (readings (value d s) c s k 0 count at stop) (value d s) stop)
+    declare-right r n g = declaring-right e (readings (value d s) c s k 0 count at stop) (value d s) stop a q r n (cc) (cc)
 
-    pub declare-wrong : (x : Refusal) (p : ℕ) → v ≡ Wrong x p → Wrong x p ≡ measuredOf (declaring e (run (value d s) c s k 0 count at stop) (value d s) stop)
-    declare-wrong x p g = declaring-wrong-last e (run (value d s) c s k 0 count at stop) (value d s) stop a q x p (cc) (cc)
+    pub declare-wrong : (x : Refusal) (p : ℕ) → v ≡ Wrong x p → Wrong x p ≡ measuredOf (declaring e (readings (value d s) c s k 0 count at stop) (value d s) stop)
+    declare-wrong x p g = declaring-wrong-last e (readings (value d s) c s k 0 count at stop) (value d s) stop a q x p (cc) (cc)
 
-pub children-stop : (s : List ℕ) (d at stop k : ℕ) (c : Children) (count : ℕ) (m : Measured) → m ≡ measuredRun (run (value d s) c s k 0 count at stop)
+pub children-stop : (s : List ℕ) (d at stop k : ℕ) (c : Children) (count : ℕ) (m : Measured) → m ≡ measuredAll (readings (value d s) c s k 0 count at stop)
     → (a q : ℕ) → m ≡ Right a q → at ≤ stop → q ≤ stop
 children-stop s d at stop k c count m e a q f h = bound s d at stop k c count m e a q f h .1
 
@@ -273,21 +273,21 @@ pub record Kept (R : Reader) (c : Children) (s : List ℕ) (k count at stop i ro
   pub few : i ≤ count
   pub before : at + rows ≤ place
   pub within : place ≤ stop
-  pub same : plus rows (measuredRun (run R c s k i (count - i) place stop)) ≡ measuredRun (run R c s k 0 count at stop)
+  pub same : plus rows (measuredAll (readings R c s k i (count - i) place stop)) ≡ measuredAll (readings R c s k 0 count at stop)
 
-ahead-plus : (t : Tree) (y : Run) → measuredRun (ahead t y) ≡ plus (size t) (measuredRun y)
+ahead-plus : (t : Tree) (y : Readings) → measuredAll (ahead t y) ≡ plus (size t) (measuredAll y)
 unfolding sizes
 ahead-plus t (ran ts q) = refl
 ahead-plus t (broke x p) = refl
 
-follow-right : (x : Reading) (rest : ℕ → Run) (r n : ℕ) → measuredOf x ≡ Right r n → measuredRun (follow x rest) ≡ plus r (measuredRun (rest n))
+follow-right : (x : Reading) (rest : ℕ → Readings) (r n : ℕ) → measuredOf x ≡ Right r n → measuredAll (follow x rest) ≡ plus r (measuredAll (rest n))
 follow-right (right t m) rest r n e =
     let h : size t ≡ r = cc in
     let i : m ≡ n = cc in
     rw (i, ← h) (ahead-plus t (rest n))
 follow-right (wrong x p) rest r n e = cc
 
-follow-wrong : (x : Reading) (rest : ℕ → Run) (e : Refusal) (p : ℕ) → measuredOf x ≡ Wrong e p → measuredRun (follow x rest) ≡ Wrong e p
+follow-wrong : (x : Reading) (rest : ℕ → Readings) (e : Refusal) (p : ℕ) → measuredOf x ≡ Wrong e p → measuredAll (follow x rest) ≡ Wrong e p
 follow-wrong (right t m) rest e p h = cc
 follow-wrong (wrong x q) rest e p h = cc
 
@@ -295,16 +295,16 @@ pub kept-first : (R : Reader) (c : Children) (s : List ℕ) (k count at stop : �
 kept-first R c s k count at stop h = record { few = omega arith; before = omega arith; within = h; same = rw (sub-zero count) (plus-zero _) }
 
 pub kept-all : (R : Reader) (c : Children) (s : List ℕ) (k count at stop i rows place : ℕ) → Kept R c s k count at stop i rows place → count ≤ i
-    → Right rows place ≡ measuredRun (run R c s k 0 count at stop)
-unfolding run sizes
+    → Right rows place ≡ measuredAll (readings R c s k 0 count at stop)
+unfolding readings sizes
 kept-all R c s k count at stop i rows place kept h =
     let z : count - i ≡ 0 = omega arith in
     sym (ap (λ (x : ℕ). Right x place) (add-zero rows)) ∙ rw z at (kept .same)
 
 module _ (s : List ℕ) (d : ℕ) (c : Children) (k count at stop i rows place : ℕ) (kept : Kept (value d s) c s k count at stop i rows place) (turn : i < count)
     (m : Measured) (read : m ≡ measuredOf (child c (value d s) s k i place stop)) where
-  one-more : run (value d s) c s k i (count - i) place stop
-      ≡ follow (child c (value d s) s k i place stop) (λ next. run (value d s) c s k (i + 1) (count - (i + 1)) next stop)
+  one-more : readings (value d s) c s k i (count - i) place stop
+      ≡ follow (child c (value d s) s k i place stop) (λ next. readings (value d s) c s k (i + 1) (count - (i + 1)) next stop)
   one-more =
       clauses.run-left (value d s) c s k i count place stop _ turn (clauses.run-next (value d s) c s k i (count - (i + 1)) place stop)
 
@@ -319,14 +319,14 @@ module _ (s : List ℕ) (d : ℕ) (c : Children) (k count at stop i rows place :
         before = omega (arith, kept .before);
         within = b .1;
         same =
-            plus-plus rows r (measuredRun (run (value d s) c s k (i + 1) (count - (i + 1)) n stop))
-            ∙ sym (ap (plus rows) (ap measuredRun one-more ∙ follow-right (child c (value d s) s k i place stop) _ r n (cc)))
+            plus-plus rows r (measuredAll (readings (value d s) c s k (i + 1) (count - (i + 1)) n stop))
+            ∙ sym (ap (plus rows) (ap measuredAll one-more ∙ follow-right (child c (value d s) s k i place stop) _ r n (cc)))
             ∙ kept .same;
       }
 
-  pub kept-wrong : (x : Refusal) (p : ℕ) → m ≡ Wrong x p → Wrong x p ≡ measuredRun (run (value d s) c s k 0 count at stop)
+  pub kept-wrong : (x : Refusal) (p : ℕ) → m ≡ Wrong x p → Wrong x p ≡ measuredAll (readings (value d s) c s k 0 count at stop)
   kept-wrong x p e =
-      sym (ap (plus rows) (ap measuredRun one-more ∙ follow-wrong (child c (value d s) s k i place stop) _ x p (cc))) ∙ kept .same
+      sym (ap (plus rows) (ap measuredAll one-more ∙ follow-wrong (child c (value d s) s k i place stop) _ x p (cc))) ∙ kept .same
 
   pub kept-fits : (r n : ℕ) → m ≡ Right r n → Fits w64 stop → Fits w64 (rows + r)
   kept-fits r n e fit =

@@ -1,6 +1,6 @@
 -- What is measured of a reading: its rows and the place behind it, or its refusal. Assumes nothing: these are definitions.
 use Rattle.format.specs.Tree.{size, sizes}
-use Rattle.format.specs.Value.{Reading, right, wrong, Run, ran, broke}
+use Rattle.format.specs.Value.{Reading, right, wrong, Readings, ran, broke}
 use Rattle.measure.specs.declared.measured.Measured.{Measured}
 use Rattle.measure.specs.declared.measured.Measured.the-variants.{Right, Wrong}
 
@@ -10,6 +10,6 @@ measuredOf (right t next) = Right (size t) next
 measuredOf (wrong e place) = Wrong e place
 
 -- the same of children in a row
-abbrev pub measuredRun : Run → Measured
-measuredRun (ran ts next) = Right (sizes ts) next
-measuredRun (broke e place) = Wrong e place
+abbrev pub measuredAll : Readings → Measured
+measuredAll (ran ts next) = Right (sizes ts) next
+measuredAll (broke e place) = Wrong e place

@@ -5,8 +5,8 @@ ghost use lib.ListN.{length};
 ghost use Rattle.rows.specs.Table.{limit};
 ghost use Rattle.rows.specs.Kinds.{holderOwn};
 ghost use Rattle.format.specs.declared.head.Children.the-variants.{Entries};
-ghost use Rattle.format.specs.Value.{kindOf, childCount, childrenOf, child, run, held, declaring, whole, inForeign, framed, value};
-ghost use Rattle.measure.specs.Measured.{measuredOf, measuredRun};
+ghost use Rattle.format.specs.Value.{kindOf, childCount, childrenOf, child, readings, holding, declaring, whole, inForeign, framed, value};
+ghost use Rattle.measure.specs.Measured.{measuredOf, measuredAll};
 use crate::key::measure_key;
 use crate::measured::Measured;
 use format::Children;
@@ -59,7 +59,7 @@ fn measure_hold(
     count: usize,
 ) -> Measured
     requires { ⌜ (0 < at) × (at ≤ stop) × (stop ≤ length (now s)) × (count ≤ limit) ⌝ }
-    ensures { λ r. ⌜ r ≡ measuredOf (held (holderOwn (kindOf holder) count) (run (value levels (now (s .entry))) (childrenOf holder) (now (s .entry)) around 0 (childCount holder count) at stop)) ⌝ }
+    ensures { λ r. ⌜ r ≡ measuredOf (holding (holderOwn (kindOf holder) count) (readings (value levels (now (s .entry))) (childrenOf holder) (now (s .entry)) around 0 (childCount holder count) at stop)) ⌝ }
 {
     let n = holder.children(count);
     let m = measure_children(s, at, stop, levels, around, holder.reading(), n);
@@ -75,7 +75,7 @@ fn measure_hold(
 // A declaration's entries stand at `at`, and its value behind them.
 fn measure_declared(s: &[u8], at: usize, stop: usize, levels: usize, count: usize) -> Measured
     requires { ⌜ (0 < at) × (at ≤ stop) × (stop ≤ length (now s)) ⌝ }
-    ensures { λ r. ⌜ r ≡ measuredOf (declaring count (run (value levels (now (s .entry))) Entries (now (s .entry)) 0 0 count at stop) (value levels (now (s .entry))) stop) ⌝ }
+    ensures { λ r. ⌜ r ≡ measuredOf (declaring count (readings (value levels (now (s .entry))) Entries (now (s .entry)) 0 0 count at stop) (value levels (now (s .entry))) stop) ⌝ }
 {
     let m = measure_children(s, at, stop, levels, 0, Children::Entries, count);
     match m {
@@ -148,7 +148,7 @@ fn measure_children(
     count: usize,
 ) -> Measured
     requires { ⌜ (at ≤ stop) × (stop ≤ length (now s)) ⌝ }
-    ensures { λ r. ⌜ r ≡ measuredRun (run (value levels (now (s .entry))) children (now (s .entry)) around 0 count at stop) ⌝ }
+    ensures { λ r. ⌜ r ≡ measuredAll (readings (value levels (now (s .entry))) children (now (s .entry)) around 0 count at stop) ⌝ }
 {
     let mut i = 0;
     let mut rows = 0;

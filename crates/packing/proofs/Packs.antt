@@ -4,7 +4,7 @@ use Prim.Native.Nat.{ℕ, _+_, _*_, _/_, _%_, _^_, _≤_, _<_}
 use native.Mathlib.Omega.{arith}
 use borrow.Author.Tests.{le-leb, lt-leb}
 use Rattle.variable.specs.declared.answer.Written.{Written as Coded}
-use Rattle.variable.specs.Answer.{writtenNumber as codedNumber, writtenBeside as codedBeside}
+use Rattle.variable.specs.Answer.{codedNumber, codedBeside}
 use Rattle.rows.specs.Table.{limit}
 use Rattle.format.specs.declared.answer.Answer.{Answer}
 use Rattle.format.specs.Answer.{answerNumber, answerBeside}

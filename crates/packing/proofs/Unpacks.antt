@@ -3,7 +3,8 @@ use mathlib.Core.Path.{_≡_, sym, ap, _∙_}
 use Prim.Native.Nat.{ℕ, _/_, _%_, _^_, _<_}
 use Rattle.walker.specs.declared.step.Step.{Step}
 use Rattle.walker.specs.Walk.{stepNumber, stepStanding}
-use Rattle.packing.specs.Packed.{packed, packedStanding, packedStep, Low}
+use Rattle.packing.specs.Packed.{packed, packedStanding, packedStep}
+use Rattle.packing.specs.Contracts.{LowStep}
 use Rattle.packing.proofs.Packs.{packed-number, packed-beside, standing-row, standing-bound}
 use Rattle.packing.proofs.Widths.{standing-packs}
 
@@ -21,7 +22,7 @@ pub record Steps (r : ℕ) (s : Step) : Type 0 where
   pub row : r % 2 ^ 56 / 2 ^ 32 ≡ stepStanding s .row
   pub bound : r % 2 ^ 56 % 2 ^ 32 ≡ stepStanding s .bound
 
-pub steps : (s : Step) → Low s → Steps (packedStep s) s
+pub steps : (s : Step) → LowStep s → Steps (packedStep s) s
 unfolding packedStep
 steps s l =
     let h : packedStanding (stepStanding s) < 2 ^ 56 = standing-packs s l in

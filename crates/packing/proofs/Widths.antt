@@ -8,7 +8,7 @@ use Rattle.variable.specs.declared.answer.Read.{Read}
 use Rattle.variable.specs.declared.answer.Read.the-variants.{Got, Short}
 use Rattle.variable.specs.declared.answer.Written.{Written as Coded}
 use Rattle.variable.specs.declared.answer.Written.the-variants as codes
-use Rattle.variable.specs.Answer.{readNumber, writtenNumber as codedNumber}
+use Rattle.variable.specs.Answer.{readNumber, codedNumber}
 use Rattle.rows.specs.Table.{limit}
 use Rattle.format.specs.declared.answer.Answer.{Answer}
 use Rattle.format.specs.declared.answer.Answer.the-variants.{Accepted, TooLong, Refused, Full}
@@ -28,7 +28,8 @@ use Rattle.resolve.specs.declared.resolved.Resolved.{Resolved}
 use Rattle.resolve.specs.declared.resolved.Resolved.the-variants as ends
 use Rattle.resolve.specs.Resolve.{resolvedNumber, resolvedRow, resolvedBound, resolvedMoves}
 use Rattle.payload.specs.declared.part.Part.{Part}
-use Rattle.packing.specs.Packed.{packedStanding, Low, Small, Placed}
+use Rattle.packing.specs.Packed.{packedStanding}
+use Rattle.packing.specs.Contracts.{LowStep, SmallResolved, SmallPart}
 
 -- ---- the numbers of the paper
 
@@ -67,12 +68,12 @@ read-number Short n e = omega arith
 
 -- ---- standings
 
-pub standing-packs : (s : Step) → Low s → packedStanding (stepStanding s) < 2 ^ 56
+pub standing-packs : (s : Step) → LowStep s → packedStanding (stepStanding s) < 2 ^ 56
 unfolding packedStanding
 standing-packs s l = omega (arith, l .row-low, l .bound-low)
 
 -- what a standing that packs makes
-module _ (n : ℕ) (few : n ≤ limit) (s : Step) (packs : n ≤ limit → Low s) (at : Standing) (is : at ≡ stepStanding s) where
+module _ (n : ℕ) (few : n ≤ limit) (s : Step) (packs : n ≤ limit → LowStep s) (at : Standing) (is : at ≡ stepStanding s) where
   r : at .row < 2 ^ 24
   r = subst (λ (x : Standing). x .row < 2 ^ 24) (sym is) (packs few .row-low)
 
@@ -90,7 +91,7 @@ module _ (n : ℕ) (few : n ≤ limit) (s : Step) (packs : n ≤ limit → Low s
 
 -- ---- words of a list
 
-module _ (r : Resolved) (small : Small r) (n : ℕ) where
+module _ (r : Resolved) (small : SmallResolved r) (n : ℕ) where
   pub row-cast : n ≡ resolvedRow r → Fits w32 n
   row-cast e = omega (arith, small .row-small)
 
@@ -100,7 +101,7 @@ module _ (r : Resolved) (small : Small r) (n : ℕ) where
   pub moves-cast : n ≡ resolvedMoves r → Fits w32 n
   moves-cast e = omega (arith, small .moves-small)
 
-module _ (p : Part) (placed : Placed p) where
+module _ (p : Part) (placed : SmallPart p) where
   pub place-cast : Fits w32 (p .place)
   place-cast = omega (arith, placed .place-short)
 

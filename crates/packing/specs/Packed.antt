@@ -1,5 +1,5 @@
 -- How the C library hands an answer over, and what a lent list holds afterwards. Assumes nothing: these are definitions.
-use Prim.Native.Nat.{ℕ, _+_, _*_, _^_, _<_}
+use Prim.Native.Nat.{ℕ, _+_, _*_, _^_}
 use mathlib.Core.Bool.{cond}
 use mathlib.Core.List.{List, [], _∷_}
 use lib.ListN.{length}
@@ -7,7 +7,7 @@ use lib.Seq.{sets}
 use lib.Dec.{leb}
 use Rattle.variable.specs.declared.answer.Read.{Read}
 use Rattle.variable.specs.declared.answer.Written.{Written as Coded}
-use Rattle.variable.specs.Answer.{readNumber, readValue, readUsed, writtenNumber as codedNumber, writtenBeside as codedBeside}
+use Rattle.variable.specs.Answer.{readNumber, readValue, readUsed, codedNumber, codedBeside}
 use Rattle.rows.specs.Table.{limit}
 use Rattle.format.specs.declared.answer.Answer.{Answer}
 use Rattle.format.specs.Answer.{answerNumber, answerBeside}
@@ -46,11 +46,6 @@ packedStanding at = at .row * 2 ^ 32 + at .bound
 unfoldable pub packedStep : Step → ℕ
 packedStep s = packed (stepNumber s) (packedStanding (stepStanding s))
 
--- a row in 24 bits, a bound in 32: what packing a step asks; cited inside only, by no promise to C
-pub record Low (s : Step) : Type 0 where
-  pub row-low : stepStanding s .row < 2 ^ 24
-  pub bound-low : stepStanding s .bound < 2 ^ 32
-
 -- Above the bound there are 24 bits for a row. So n above the limit is a bad table for the steps and for resolving; none passes the check.
 unfoldable pub within {ℓ} : {A : Type ℓ} → ℕ → A → A → A
 within n answer bad = cond (leb n limit) answer bad
@@ -70,23 +65,12 @@ resolvedWords r = resolvedRow r ∷ resolvedBound r ∷ resolvedMoves r ∷ []
 unfoldable pub packedResolved : Resolved → List ℕ → ℕ
 packedResolved r out = lentFor (resolvedWords r) out (packed (resolvedNumber r) 0)
 
--- each in 32 bits: what packing them asks; cited inside only
-pub record Small (r : Resolved) : Type 0 where
-  pub row-small : resolvedRow r < 2 ^ 32
-  pub bound-small : resolvedBound r < 2 ^ 32
-  pub moves-small : resolvedMoves r < 2 ^ 32
-
 -- "out: place, size"
 unfoldable pub partWords : Part → List ℕ
 partWords p = p .place ∷ p .size ∷ []
 
 unfoldable pub packedPart : Part → List ℕ → ℕ
 packedPart p out = lentFor (partWords p) out (packed 0 0)
-
--- both in 32 bits: what packing them asks; cited inside only
-pub record Placed (p : Part) : Type 0 where
-  pub place-short : p .place < 2 ^ 32
-  pub size-short : p .size < 2 ^ 32
 
 -- "four words", low word first; "beside: bytes used"; "too few bytes: 2, value and bytes used 0"
 unfoldable pub readWords : Read → List ℕ

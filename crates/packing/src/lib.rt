@@ -3,12 +3,13 @@ mod pack;
 
 ghost use mathlib.Core.Path.{_≡_};
 ghost use Prim.Native.Nat.{_^_, _≤_, _<_};
-ghost use Rattle.variable.specs.Answer.{readUsed, writtenBeside as codedBeside};
+ghost use Rattle.variable.specs.Answer.{readUsed, codedBeside};
 ghost use Rattle.rows.specs.Table.{limit};
 ghost use Rattle.format.specs.Answer.{answerBeside};
 ghost use Rattle.checker.specs.Checked.{checkedBeside};
 ghost use Rattle.writer.specs.Written.{writtenBeside};
-ghost use Rattle.packing.specs.Packed.{packedAnswer, packedChecked, packedWritten, packedCoded, packedStep, within, listAfter, resolvedWords, packedResolved, partWords, packedPart, readWords, packedRead, Low, Small, Placed};
+ghost use Rattle.packing.specs.Packed.{packedAnswer, packedChecked, packedWritten, packedCoded, packedStep, within, listAfter, resolvedWords, packedResolved, partWords, packedPart, readWords, packedRead};
+ghost use Rattle.packing.specs.Contracts.{LowStep, SmallResolved, SmallPart};
 use rows::Row;
 use walker::Step;
 
@@ -46,7 +47,7 @@ pub fn coded(a: variable::Written) -> u64
 
 // What a step over n rows answered: the row in 24 bits, the bound in 32. More rows than the limit are a bad table.
 pub fn step(n: usize, a: Step) -> u64
-    requires { ⌜ (n ≤ limit → Low a) ⌝ }
+    requires { ⌜ (n ≤ limit → LowStep a) ⌝ }
     ensures { λ r. ⌜ r ≡ packedStep (within n a Step.BadTable) ⌝ }
 {
     if Row::LIMIT < n {
@@ -58,7 +59,7 @@ pub fn step(n: usize, a: Step) -> u64
 
 // What resolving answered: row, bound and moves into the lent list.
 pub fn resolved(out: &mut [u32], a: resolve::Resolved) -> u64
-    requires { ⌜ Small a ⌝ }
+    requires { ⌜ SmallResolved a ⌝ }
     ensures { λ r. ⌜ r ≡ packedResolved a (now (out .entry)) ⌝ }
     ensures { λ _. ⌜ now (out .exit) ≡ listAfter (resolvedWords a) (now (out .entry)) ⌝ }
 {
@@ -73,7 +74,7 @@ pub fn resolved(out: &mut [u32], a: resolve::Resolved) -> u64
 
 // A payload: its place and its size into the lent list.
 pub fn part(out: &mut [u32], a: payload::Part) -> u64
-    requires { ⌜ Placed a ⌝ }
+    requires { ⌜ SmallPart a ⌝ }
     ensures { λ r. ⌜ r ≡ packedPart a (now (out .entry)) ⌝ }
     ensures { λ _. ⌜ now (out .exit) ≡ listAfter (partWords a) (now (out .entry)) ⌝ }
 {

@@ -25,8 +25,8 @@ unfoldable pub payloadAt : List ℕ → ℕ → List ℕ → Part
 payloadAt table row s = cond (ltb row (lent table)) (partOf (rowAt table row) s) (part 0 0)
 
 -- the bytes of a part
-abbrev pub bytesOf : Part → List ℕ → List ℕ
-bytesOf p s = take (p .size) (drop (p .place) s)
+abbrev pub partBytes : Part → List ℕ → List ℕ
+partBytes p s = take (p .size) (drop (p .place) s)
 
 -- a lent slice as it lies in memory: where it begins, and its bytes
 abbrev pub lies : RefT (List ℕ) → (ℕ × ℕ) × List ℕ
@@ -34,4 +34,4 @@ lies r = (r .ptr, r .now)
 
 -- "A row's payload .. is handed back as that part of the lent data": `place` bytes behind the front of the data, and no copy of them
 abbrev pub partIn : RefT (List ℕ) → Part → (ℕ × ℕ) × List ℕ
-partIn s p = ((s .ptr .0, p .place + s .ptr .1), bytesOf p (s .now))
+partIn s p = ((s .ptr .0, p .place + s .ptr .1), partBytes p (s .now))

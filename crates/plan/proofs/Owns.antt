@@ -20,8 +20,7 @@ use Rattle.rules.specs.Shape.{named}
 use Rattle.rules.proofs.Says.{Names, names}
 use Rattle.encode.specs.Encode.{floatMarker, holderCount, headFor}
 use Rattle.plan.specs.declared.plan.Plan.{Plan}
-use Rattle.plan.specs.Plan.{Plans, Formed}
-use Rattle.plan.specs.Own.{ownHead}
+use Rattle.plan.specs.Contracts.{Plans, Formed, ownHead}
 use Rattle.plan.proofs.Plans.{formed-plan}
 
 pub count-head : (holder h : Holder) (n : ℕ) (p : Plan) → holder ≡ h → Plans p (form (holderCount h) n) → Plans p (form (holderCount holder) n)

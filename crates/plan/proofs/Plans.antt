@@ -7,14 +7,14 @@ use native.Mathlib.Omega.{arith}
 use lib.Dec.{ltb, lit≤}
 use Rattle.wide.specs.declared.wide.Wide.{Wide}
 use Rattle.wide.specs.Number.{bytesOf}
-use Rattle.wide.specs.Words.{whole, valueOf}
+use Rattle.wide.specs.Words.{wideEnd, valueOf}
 use Rattle.wide.specs.Body.{sizeAt, rank}
 use Rattle.wide.specs.Family.{behind, hasNumber, form}
 use Rattle.wide.specs.Members.{run, headed, integer}
 use Rattle.wide.proofs.Wides.{Words, value-lt}
 use Rattle.wide.proofs.Ranks.{rank-lt, size-high}
 use Rattle.plan.specs.declared.plan.Plan.{Plan}
-use Rattle.plan.specs.Plan.{marked, planBytes, Plans, Formed}
+use Rattle.plan.specs.Contracts.{marksOf, planBytes, Plans, Formed}
 use Rattle.plan.proofs.Forms.{double-whole, alone-from, alone-few, form-alone, form-direct, form-body, first-low, integer-alone, integer-body}
 
 pub as-plan : (p : Plan) (xs ys : List ℕ) → Plans p xs → xs ≡ ys → Plans p ys
@@ -32,28 +32,28 @@ lead-plan lead size value h = record { few = lit≤ tt; short = h; spells = refl
 pub rank-small : (n : ℕ) (value : Wide) (j : ℕ) → n < 2 ^ 64 → valueOf value ≡ n → j ≡ rank false (valueOf value) → j < 8
 rank-small n value j l p q = omega (arith, q, rank-lt false (valueOf value) (omega (arith, p, double-whole)))
 
-module _ (low count from marks first second n : ℕ) (h : (low + count ≤ 256) × (from ≤ 1) × (marks ≤ 2)) (small : n < 2 ^ 64) (r : Bool) (e : r ≡ ltb (behind whole from n) count) where
+module _ (low count from marks first second n : ℕ) (h : (low + count ≤ 256) × (from ≤ 1) × (marks ≤ 2)) (small : n < 2 ^ 64) (r : Bool) (e : r ≡ ltb (behind wideEnd from n) count) where
   pub from-low : r ≡ true → from ≤ n
   from-low t = alone-from count from n (omega (arith, h .0)) (h .1) small r e t
 
   pub lead-byte : r ≡ true → low + (n - from) < 256
   lead-byte t = omega (arith, h .0, alone-few count from n (omega (arith, h .0)) (h .1) small r e t)
 
-  pub alone-plan : r ≡ true → (p : Plan) → Plans p ((low + (n - from)) ∷ []) → Plans p (form (headed (run low count from) (marked marks first second)) n)
-  alone-plan t p g = as-plan p _ _ g (form-alone low count from (marked marks first second) n (h .0) (h .1) small r e t)
+  pub alone-plan : r ≡ true → (p : Plan) → Plans p ((low + (n - from)) ∷ []) → Plans p (form (headed (run low count from) (marksOf marks first second)) n)
+  alone-plan t p g = as-plan p _ _ g (form-alone low count from (marksOf marks first second) n (h .0) (h .1) small r e t)
 
-  pub direct-plan : r ≡ false → n < 248 → (value : Wide) → Plans (plan marks first second n 0 value) (form (headed (run low count from) (marked marks first second)) n)
+  pub direct-plan : r ≡ false → n < 248 → (value : Wide) → Plans (plan marks first second n 0 value) (form (headed (run low count from) (marksOf marks first second)) n)
   unfolding planBytes
-  direct-plan t l value = record { few = h .2; short = lit≤ tt; spells = form-direct low count from (marked marks first second) n (h .0) (h .1) small r e t l }
+  direct-plan t l value = record { few = h .2; short = lit≤ tt; spells = form-direct low count from (marksOf marks first second) n (h .0) (h .1) small r e t l }
 
   pub body-plan : r ≡ false → 248 ≤ n → (value : Wide) (j k : ℕ) → valueOf value ≡ n → j ≡ rank false (valueOf value) → k ≡ sizeAt j
-      → Plans (plan marks first second (248 + j) k value) (form (headed (run low count from) (marked marks first second)) n)
+      → Plans (plan marks first second (248 + j) k value) (form (headed (run low count from) (marksOf marks first second)) n)
   unfolding planBytes
   body-plan t l value j k p q s =
       record {
         few = h .2;
         short = omega (arith, s, size-high j (rank-small n value j small p q));
-        spells = form-body low count from (marked marks first second) n (h .0) (h .1) small r e t l (valueOf value) j k p q s;
+        spells = form-body low count from (marksOf marks first second) n (h .0) (h .1) small r e t l (valueOf value) j k p q s;
       }
 
 -- ---- an integer

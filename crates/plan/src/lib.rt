@@ -1,5 +1,5 @@
 // What stands before a row's payload or its children: which bytes they are.
-mod heads;
+mod leads;
 mod own;
 mod plan;
 

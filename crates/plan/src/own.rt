@@ -1,15 +1,14 @@
 // A row's head, by its kind.
 ghost use Rattle.wide.specs.Family.{form};
 ghost use Rattle.encode.specs.Encode.{holderCount};
-ghost use Rattle.plan.specs.Plan.{Plans};
-ghost use Rattle.plan.specs.Own.{ownHead};
-use crate::heads::alone;
-use crate::heads::float_marker;
-use crate::heads::formed;
-use crate::heads::headed;
-use crate::heads::integer_form;
-use crate::heads::lead_and;
-use crate::heads::wide_of;
+ghost use Rattle.plan.specs.Contracts.{Plans, ownHead};
+use crate::leads::alone;
+use crate::leads::float_marker;
+use crate::leads::formed;
+use crate::leads::headed;
+use crate::leads::integer_form;
+use crate::leads::lead_and;
+use crate::leads::wide_of;
 use crate::plan::Plan;
 use format::Holder;
 use rows::Row;

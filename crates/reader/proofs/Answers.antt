@@ -28,7 +28,7 @@ use Rattle.measure.specs.declared.measured.Measured.the-variants as measured
 use Rattle.measure.specs.Measured.{measuredOf}
 use Rattle.lists.proofs.Zeros.{length-zeroed}
 use Rattle.registry.proofs.Walks.{based-plain, below-none}
-use Rattle.reader.specs.Contracts.{placeIn, rowIn, Right, treeOf, nextOf, Ready, Open, Tried, Whole, notRead}
+use Rattle.reader.specs.Contracts.{placeIn, rowIn, Right, treeRead, nextOf, Ready, Open, Tried, Whole, notRead}
 use Rattle.reader.proofs.Whole.{zeros-alike, whole-ready, whole-did}
 
 module _ (depth : ℕ) (s table : List ℕ) where
@@ -52,13 +52,13 @@ module _ (depth : ℕ) (s table : List ℕ) where
 
     -- nothing was read
     module _ (none : used ≡ 0) where
-      not-said : (x : Reading) → (Right x → lent table < size (treeOf x)) → answerFor (lent table) x ≡ notRead x
-      unfolding Right treeOf
+      not-said : (x : Reading) → (Right x → lent table < size (treeRead x)) → answerFor (lent table) x ≡ notRead x
+      unfolding Right treeRead
       not-said (right t n) h = cond-no (leb (size t) (lent table)) _ _ (lt-leb (size t) (lent table) (h tt))
       not-said (wrong e p) h = refl
 
-      not-held : (x : Reading) → (Right x → lent table < size (treeOf x)) → filled (lent table) x table ≡ zeroed 0 table
-      unfolding Right treeOf
+      not-held : (x : Reading) → (Right x → lent table < size (treeRead x)) → filled (lent table) x table ≡ zeroed 0 table
+      unfolding Right treeRead
       not-held (right t n) h = cond-no (leb (size t) (lent table)) _ _ (lt-leb (size t) (lent table) (h tt))
       not-held (wrong e p) h = refl
 
@@ -70,13 +70,13 @@ module _ (depth : ℕ) (s table : List ℕ) where
 
     -- all of it was
     module _ (some : used ≡ 0 → ⊥) where
-      said : (x : Reading) → Right x → used ≡ size (treeOf x) → size (treeOf x) ≤ lent table → Accepted used ≡ answerFor (lent table) x
-      unfolding Right treeOf
+      said : (x : Reading) → Right x → used ≡ size (treeRead x) → size (treeRead x) ≤ lent table → Accepted used ≡ answerFor (lent table) x
+      unfolding Right treeRead
       said (right t n) g e h = sym (cond-yes (leb (size t) (lent table)) _ _ (le-leb (size t) (lent table) h) ∙ ap Accepted (sym e))
       said (wrong y p) g e h = absurd g
 
-      held : (x : Reading) → Right x → size (treeOf x) ≤ lent table → sets (zeroed 0 table) 0 (layout (treeOf x) 0 []) ≡ filled (lent table) x table
-      unfolding Right treeOf
+      held : (x : Reading) → Right x → size (treeRead x) ≤ lent table → sets (zeroed 0 table) 0 (layout (treeRead x) 0 []) ≡ filled (lent table) x table
+      unfolding Right treeRead
       held (right t n) g h = sym (cond-yes (leb (size t) (lent table)) _ _ (le-leb (size t) (lent table) h))
       held (wrong y p) g h = absurd g
 
@@ -104,29 +104,29 @@ not-read-wrong depth s m y p e f = of (document depth s) (sym e ∙ f)
 -- ---- filling from a document
 
 -- the value of a right document is its tree
-whole-value : (depth : ℕ) (s : List ℕ) → Right (document depth s) → (Right (value (suc depth) s 0 0 (length s))) × (treeOf (value (suc depth) s 0 0 (length s)) ≡ treeOf (document depth s))
-unfolding Right treeOf
+whole-value : (depth : ℕ) (s : List ℕ) → Right (document depth s) → (Right (value (suc depth) s 0 0 (length s))) × (treeRead (value (suc depth) s 0 0 (length s)) ≡ treeRead (document depth s))
+unfolding Right treeRead
 whole-value depth s g = of (document depth s) refl g
   where
-    of : (x : Reading) → document depth s ≡ x → Right x → (Right (value (suc depth) s 0 0 (length s))) × (treeOf (value (suc depth) s 0 0 (length s)) ≡ treeOf (document depth s))
+    of : (x : Reading) → document depth s ≡ x → Right x → (Right (value (suc depth) s 0 0 (length s))) × (treeRead (value (suc depth) s 0 0 (length s)) ≡ treeRead (document depth s))
     of (right t n) q r =
         let v : value (suc depth) s 0 0 (length s) ≡ right t n = document-value depth s t n q in
-        (subst Right (sym v) tt, ap treeOf v ∙ sym (ap treeOf q))
+        (subst Right (sym v) tt, ap treeRead v ∙ sym (ap treeRead q))
     of (wrong e p) q r = absurd r
 
-module _ (depth : ℕ) (s table : List ℕ) (few : length s ≤ limit) (good : Right (document depth s)) (room : size (treeOf (document depth s)) ≤ lent table) where
+module _ (depth : ℕ) (s table : List ℕ) (few : length s ≤ limit) (good : Right (document depth s)) (room : size (treeRead (document depth s)) ≤ lent table) where
   level : value (suc depth) s 0 0 (length s) ≡ value (depth + 1) s 0 0 (length s)
   level = let e : suc depth ≡ depth + 1 = omega arith in ap (λ (d : ℕ). value d s 0 0 (length s)) e
 
-  tree-same : treeOf (value (depth + 1) s 0 0 (length s)) ≡ treeOf (document depth s)
-  tree-same = ap treeOf (sym level) ∙ whole-value depth s good .1
+  tree-same : treeRead (value (depth + 1) s 0 0 (length s)) ≡ treeRead (document depth s)
+  tree-same = ap treeRead (sym level) ∙ whole-value depth s good .1
 
-  rows-few : size (treeOf (document depth s)) ≤ limit
-  unfolding Right treeOf
+  rows-few : size (treeRead (document depth s)) ≤ limit
+  unfolding Right treeRead
   rows-few = of (document depth s) refl good
     where
-      of : (x : Reading) → document depth s ≡ x → Right x → size (treeOf (document depth s)) ≤ limit
-      of (right t n) q r = omega (arith, document-rows depth s t n q, ap size (ap treeOf q))
+      of : (x : Reading) → document depth s ≡ x → Right x → size (treeRead (document depth s)) ≤ limit
+      of (right t n) q r = omega (arith, document-rows depth s t n q, ap size (ap treeRead q))
       of (wrong e p) q r = absurd r
 
   pub fill-asks : Ready (value (depth + 1) s 0 0 (length s)) table 0 0 0
@@ -145,11 +145,11 @@ module _ (depth : ℕ) (s table : List ℕ) (few : length s ≤ limit) (table₁
   suc-level : value (suc depth) s 0 0 (length s) ≡ P
   suc-level = let e : suc depth ≡ depth + 1 = omega arith in ap (λ (d : ℕ). value d s 0 0 (length s)) e
 
-  none : (Right (document depth s) → size (treeOf (document depth s)) ≤ lent table → ⊥) → Whole (document depth s) table table₁ 0
+  none : (Right (document depth s) → size (treeRead (document depth s)) ≤ lent table → ⊥) → Whole (document depth s) table table₁ 0
   none n =
       record {
         same = t .same;
-        failed = λ e g. either (size (treeOf (document depth s))) (lent table) (λ h. absurd (n g h)) (λ h. h);
+        failed = λ e g. either (size (treeRead (document depth s))) (lent table) (λ h. absurd (n g h)) (λ h. h);
         good = λ z. absurd (z refl);
         rows = λ z. absurd (z refl);
         room = λ z. absurd (z refl);
@@ -185,11 +185,11 @@ module _ (depth : ℕ) (s table : List ℕ) (few : length s ≤ limit) (table₁
       document-done used table₂ e g =
           let d = t .did z in
           let r = t .ready z in
-          let rows : used ≡ size (treeOf P) = omega (arith, d .past) in
+          let rows : used ≡ size (treeRead P) = omega (arith, d .past) in
           let past : table₂ ≡ zeroed (wordsPerRow * rowIn f) table₁ = g ∙ ap (λ (n : ℕ). zeroed (wordsPerRow * n) table₁) e in
           rw is (record {
             same = ap length g ∙ length-zeroed (wordsPerRow * used) table₁ ∙ t .same;
-            failed = λ q x. absurd (let b : ⊥ = omega (arith, size-pos (treeOf P)) in b);
+            failed = λ q x. absurd (let b : ⊥ = omega (arith, size-pos (treeRead P)) in b);
             good = λ n. r .good;
             rows = λ n. rows;
             room = λ n. omega (arith, r .room);

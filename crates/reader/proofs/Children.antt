@@ -13,10 +13,10 @@ use Rattle.rows.proofs.Rows.{lent-sets}
 use Rattle.format.specs.declared.head.Children.{Children}
 use Rattle.format.specs.declared.head.Children.the-variants.{Plain, Keyed, Entries}
 use Rattle.format.specs.Tree.{many, Tree, Trees, size, sizes}
-use Rattle.format.specs.Value.{Reading, right, wrong, Run, ran, broke, Reader, child, inForce, ahead, follow, run, value}
+use Rattle.format.specs.Value.{Reading, right, wrong, Readings, ran, broke, Reader, child, inForce, ahead, follow, readings, value}
 use Rattle.format.specs.Layout.{isEntry, layout, grown}
-use Rattle.registry.specs.Registry.{walk, chain, Below, firstIn, Based}
-use Rattle.reader.specs.Contracts.{behind, placeIn, rowIn, Right, treeOf, nextOf, Ran, treesOf, nextsOf, Ready, Did, Open, Tried, ReadyAll, DidAll, OpenAll, TriedAll}
+use Rattle.registry.specs.Contracts.{walk, chain, Below, firstIn, Based}
+use Rattle.reader.specs.Contracts.{placeAndRow, placeIn, rowIn, Right, treeRead, nextOf, Ran, treesRead, nextsOf, Ready, Did, Open, Tried, ReadyAll, DidAll, OpenAll, TriedAll}
 use Rattle.registry.proofs.Walks.{chain-sets, below-sets, based-sets, based-plain}
 use Rattle.format.proofs.Layouts.{lay-more}
 use Rattle.format.proofs.Values.{ReadAt, RunAt, values-child}
@@ -54,8 +54,8 @@ stepped Entries table first k i row t registry room below linked =
 
 -- ---- the first position, and those behind it
 
-module _ (P : Reading) (F : ℕ → Run) (c : Children) (table : List ℕ) (row first k i : ℕ) (r : ReadyAll (follow P F) c table row first k i) where
-  all-rows : sizes (treesOf (follow P F)) ≡ size (treeOf P) + sizes (treesOf (F (nextOf P)))
+module _ (P : Reading) (F : ℕ → Readings) (c : Children) (table : List ℕ) (row first k i : ℕ) (r : ReadyAll (follow P F) c table row first k i) where
+  all-rows : sizes (treesRead (follow P F)) ≡ size (treeRead P) + sizes (treesRead (F (nextOf P)))
   unfolding size
   all-rows = ap sizes (follow-view P F (r .good) .are)
 
@@ -64,8 +64,8 @@ module _ (P : Reading) (F : ℕ → Run) (c : Children) (table : List ℕ) (row 
       let z = all-rows in
       record { good = follow-view P F (r .good) .good; room = omega (arith, r .room); small = omega (arith, r .small); below = r .below }
 
-  step : Stepped c table first k i row (treeOf P) (chain table first (inForce c k i))
-  step = stepped c table first k i row (treeOf P) (chain table first (inForce c k i)) (all-first .room) (r .below) (r .linked)
+  step : Stepped c table first k i row (treeRead P) (chain table first (inForce c k i))
+  step = stepped c table first k i row (treeRead P) (chain table first (inForce c k i)) (all-first .room) (r .below) (r .linked)
 
   module _ (table' : List ℕ) (at' row' : ℕ) (d : Did P table row first (inForce c k i) table' at' row') where
     all-next : ReadyAll (F at') c table' row' first k (i + 1)
@@ -73,7 +73,7 @@ module _ (P : Reading) (F : ℕ → Run) (c : Children) (table : List ℕ) (row 
         let z = all-rows in
         rw (d .words, d .place, d .past) (record {
           good = follow-view P F (r .good) .rest;
-          room = omega (arith, r .room, lent-sets table (wordsPerRow * row) (layout (treeOf P) row (chain table first (inForce c k i))));
+          room = omega (arith, r .room, lent-sets table (wordsPerRow * row) (layout (treeRead P) row (chain table first (inForce c k i))));
           small = omega (arith, r .small);
           below = step .below;
           linked = step .linked;
@@ -83,27 +83,27 @@ module _ (P : Reading) (F : ℕ → Run) (c : Children) (table : List ℕ) (row 
         → DidAll (follow P F) c table row first k i table'' at'' row''
     all-did table'' at'' row'' e =
         let v = follow-view P F (r .good) in
-        let ts : Trees = treesOf (F (nextOf P)) in
-        let last : sizes (treesOf (F at')) ≡ sizes ts = ap (λ (a : ℕ). sizes (treesOf (F a))) (d .place) in
+        let ts : Trees = treesRead (F (nextOf P)) in
+        let last : sizes (treesRead (F at')) ≡ sizes ts = ap (λ (a : ℕ). sizes (treesRead (F a))) (d .place) in
         let z = all-rows in
         record {
-          words = cc (e .words, d .words, d .place, d .past, step .force, lay-more table (treeOf P) ts (isEntry c) row (chain table first (inForce c k i)), v .are);
+          words = cc (e .words, d .words, d .place, d .past, step .force, lay-more table (treeRead P) ts (isEntry c) row (chain table first (inForce c k i)), v .are);
           place = cc (e .place, d .place, v .ends);
           past = omega (arith, e .past, d .past);
         }
 
 -- what the first has room for and those behind it have, all have
-all-up : (P : Reading) (F : ℕ → Run) (c : Children) (table : List ℕ) (row base k i at : ℕ) → OpenAll c table row base k i at → Ready P table row (firstIn base) (inForce c k i)
+all-up : (P : Reading) (F : ℕ → Readings) (c : Children) (table : List ℕ) (row base k i at : ℕ) → OpenAll c table row base k i at → Ready P table row (firstIn base) (inForce c k i)
     → (table' : List ℕ) (at' row' : ℕ) → Did P table row (firstIn base) (inForce c k i) table' at' row' → ReadyAll (F at') c table' row' (firstIn base) k (i + 1)
     → ReadyAll (follow P F) c table row (firstIn base) k i
-unfolding Right treeOf nextOf Ran treesOf size
+unfolding Right treeRead nextOf Ran treesRead size
 all-up (right t next) F c table row base k i at o r table' at' row' d all =
     let rest : ReadyAll (F next) c table' row' (firstIn base) k (i + 1) = subst (λ (a : ℕ). ReadyAll (F a) c table' row' (firstIn base) k (i + 1)) (d .place) all in
     go (F next) refl (rest .good) (rest .room) (rest .small)
   where
-    go : (Q : Run) → F next ≡ Q → Ran (F next) → row' + sizes (treesOf (F next)) ≤ lent table' → row' + sizes (treesOf (F next)) ≤ limit → ReadyAll (ahead t Q) c table row (firstIn base) k i
+    go : (Q : Readings) → F next ≡ Q → Ran (F next) → row' + sizes (treesRead (F next)) ≤ lent table' → row' + sizes (treesRead (F next)) ≤ limit → ReadyAll (ahead t Q) c table row (firstIn base) k i
     go (ran ts last) e g room small =
-        let rows : sizes (treesOf (F next)) ≡ sizes ts = ap (λ (q : Run). sizes (treesOf q)) e in
+        let rows : sizes (treesRead (F next)) ≡ sizes ts = ap (λ (q : Readings). sizes (treesRead q)) e in
         let same : length table' ≡ length table = did-length (right t next) table row (firstIn base) (inForce c k i) table' at' row' d in
         record { good = tt; room = omega (arith, d .past); small = omega (arith, d .past); below = o .below; linked = o .linked }
     go (broke y p) e g room small = absurd (subst Ran e g)
@@ -111,7 +111,7 @@ all-up (wrong y p) F c table row base k i at o r table' at' row' d all = absurd 
 
 -- ---- trying them
 
-module _ (P : Reading) (F : ℕ → Run) (c : Children) (table : List ℕ) (row base k i at : ℕ) (o : OpenAll c table row base k i at) (table' : List ℕ) (f : ℕ)
+module _ (P : Reading) (F : ℕ → Readings) (c : Children) (table : List ℕ) (row base k i at : ℕ) (o : OpenAll c table row base k i at) (table' : List ℕ) (f : ℕ)
     (t : Tried P table row (firstIn base) (inForce c k i) table' f) where
   all-broken : f ≡ 0 → TriedAll (follow P F) c table row (firstIn base) k i table' 0
   all-broken e =
@@ -136,11 +136,11 @@ module _ (P : Reading) (F : ℕ → Run) (c : Children) (table : List ℕ) (row 
       up z = all-up P F c table row base k i at o (t .ready n) table' (placeIn f) (rowIn f) (t .did n) (u .ready z)
 
 -- n positions that are right are n trees
-pub run-many : (R : Reader) (c : Children) (s : List ℕ) (k i n at stop : ℕ) → Ran (run R c s k i n at stop) → many (treesOf (run R c s k i n at stop)) ≡ n
-unfolding run treesOf many
+pub run-many : (R : Reader) (c : Children) (s : List ℕ) (k i n at stop : ℕ) → Ran (readings R c s k i n at stop) → many (treesRead (readings R c s k i n at stop)) ≡ n
+unfolding readings treesRead many
 run-many R c s k i zero at stop h = refl
 run-many R c s k i (suc n) at stop h =
-    let v = follow-view (child c R s k i at stop) (λ a. run R c s k (i + 1) n a stop) h in
+    let v = follow-view (child c R s k i at stop) (λ a. readings R c s k (i + 1) n a stop) h in
     ap many (v .are) ∙ ap suc (run-many R c s k (i + 1) n (nextOf (child c R s k i at stop)) stop (v .rest))
 
 -- what is laid behind the entries leaves their base, and where it is one more entry they are walked over
@@ -157,19 +157,19 @@ pub record Filling (d : ℕ) (c : Children) (s : List ℕ) (k stop base n at₀ 
   pub some : i ≤ n
   pub begun : OpenAll c table row base k i at
   pub within : at ≤ stop
-  pub rest : (table' : List ℕ) (f : ℕ) → TriedAll (run (value d s) c s k i (n - i) at stop) c table row (firstIn base) k i table' f
-      → TriedAll (run (value d s) c s k 0 n at₀ stop) c table₀ row₀ (firstIn base) k 0 table' f
+  pub rest : (table' : List ℕ) (f : ℕ) → TriedAll (readings (value d s) c s k i (n - i) at stop) c table row (firstIn base) k i table' f
+      → TriedAll (readings (value d s) c s k 0 n at₀ stop) c table₀ row₀ (firstIn base) k 0 table' f
   pub kept : length table ≡ length table₀
 
 -- where one is left, it and those behind it
 left-run : (R : Reader) (c : Children) (s : List ℕ) (k i n at stop : ℕ) → i < n
-    → run R c s k i (n - i) at stop ≡ follow (child c R s k i at stop) (λ a. run R c s k (i + 1) (n - (i + 1)) a stop)
-unfolding run
+    → readings R c s k i (n - i) at stop ≡ follow (child c R s k i at stop) (λ a. readings R c s k (i + 1) (n - (i + 1)) a stop)
+unfolding readings
 left-run R c s k i n at stop h = let e : n - i ≡ suc (n - (i + 1)) = omega arith in rw e
 
 -- a right reading has no more rows than bytes, and ends before the stop
-pub reading-rows : (at stop : ℕ) (P : Reading) → ReadAt at stop P → Right P → at + size (treeOf P) ≤ nextOf P
-unfolding Right treeOf nextOf
+pub reading-rows : (at stop : ℕ) (P : Reading) → ReadAt at stop P → Right P → at + size (treeRead P) ≤ nextOf P
+unfolding Right treeRead nextOf
 reading-rows at stop (right t next) a g = a .rows
 reading-rows at stop (wrong e p) a g = absurd g
 
@@ -179,12 +179,12 @@ reading-within at stop (right t next) a g = a .within
 reading-within at stop (wrong e p) a g = absurd g
 
 -- and so readings in a row
-pub run-rows : (at stop : ℕ) (Q : Run) → RunAt at stop Q → Ran Q → at + sizes (treesOf Q) ≤ nextsOf Q
-unfolding Ran treesOf nextsOf
+pub run-rows : (at stop : ℕ) (Q : Readings) → RunAt at stop Q → Ran Q → at + sizes (treesRead Q) ≤ nextsOf Q
+unfolding Ran treesRead nextsOf
 run-rows at stop (ran ts next) a g = a .rows
 run-rows at stop (broke e p) a g = absurd g
 
-pub run-within : (at stop : ℕ) (Q : Run) → RunAt at stop Q → Ran Q → nextsOf Q ≤ stop
+pub run-within : (at stop : ℕ) (Q : Readings) → RunAt at stop Q → Ran Q → nextsOf Q ≤ stop
 unfolding Ran nextsOf
 run-within at stop (ran ts next) a g = a .within
 run-within at stop (broke e p) a g = absurd g
@@ -205,8 +205,8 @@ module _ (d : ℕ) (c : Children) (s : List ℕ) (k stop base n at₀ row₀ : �
     pub filling-open : Open table row base (inForce c k i) at
     filling-open = record { below = f .begun .below; based = f .begun .based; low = f .begun .low }
 
-    pub filling-end : n ≤ i → (z : ℕ) → stop ≤ z → z ≤ limit → (r : ℕ) → r ≡ behind at row → TriedAll (run (value d s) c s k 0 n at₀ stop) c table₀ row₀ (firstIn base) k 0 table r
-    unfolding run layout size treesOf nextsOf Ran
+    pub filling-end : n ≤ i → (z : ℕ) → stop ≤ z → z ≤ limit → (r : ℕ) → r ≡ placeAndRow at row → TriedAll (readings (value d s) c s k 0 n at₀ stop) c table₀ row₀ (firstIn base) k 0 table r
+    unfolding readings layout size treesRead nextsOf Ran
     filling-end h z a b r q =
         let e : n - i ≡ 0 = omega (arith, f .some) in
         let p = place-in at row r (omega (arith, f .within)) q in
@@ -222,10 +222,10 @@ module _ (d : ℕ) (c : Children) (s : List ℕ) (k stop base n at₀ row₀ : �
       abbrev P : Reading
       P = child c (value d s) s k i at stop
 
-      abbrev F : ℕ → Run
-      F a = run (value d s) c s k (i + 1) (n - (i + 1)) a stop
+      abbrev F : ℕ → Readings
+      F a = readings (value d s) c s k (i + 1) (n - (i + 1)) a stop
 
-      pub filling-broken : g ≡ 0 → TriedAll (run (value d s) c s k 0 n at₀ stop) c table₀ row₀ (firstIn base) k 0 table' 0
+      pub filling-broken : g ≡ 0 → TriedAll (readings (value d s) c s k 0 n at₀ stop) c table₀ row₀ (firstIn base) k 0 table' 0
       filling-broken e = f .rest table' 0 (rw (left-run (value d s) c s k i n at stop h) (all-broken P F c table row base k i at (f .begun) table' g t e))
 
       pub filling-next : (g ≡ 0 → ⊥) → (at' row' : ℕ) → at' ≡ placeIn g → row' ≡ rowIn g → Filling d c s k stop base n at₀ row₀ table₀ (i + 1) at' row' table'
@@ -235,12 +235,12 @@ module _ (d : ℕ) (c : Children) (s : List ℕ) (k stop base n at₀ row₀ : �
           let a = values-child d c s k i at stop in
           let rows = reading-rows at stop P a (r .good) in
           let within = reading-within at stop P a (r .good) in
-          let step = stepped c table (firstIn base) k i row (treeOf P) (chain table (firstIn base) (inForce c k i)) (r .room) (f .begun .below) (f .begun .linked) in
+          let step = stepped c table (firstIn base) k i row (treeRead P) (chain table (firstIn base) (inForce c k i)) (r .room) (f .begun .below) (f .begun .linked) in
           rw (ea, er) (record {
             some = omega arith;
             begun = record {
               below = rw (did .words, did .past) (step .below);
-              based = rw (did .words) (based-next c table row (layout (treeOf P) row (chain table (firstIn base) (inForce c k i))) base k i (f .begun .walked) (f .begun .below) (f .begun .based));
+              based = rw (did .words) (based-next c table row (layout (treeRead P) row (chain table (firstIn base) (inForce c k i))) base k i (f .begun .walked) (f .begun .below) (f .begun .based));
               walked = f .begun .walked;
               linked = rw (did .words, did .past) (step .linked);
               low = omega (arith, did .past, did .place, f .begun .low);

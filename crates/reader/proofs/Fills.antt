@@ -22,10 +22,10 @@ use Rattle.format.specs.declared.head.Head.{Head}
 use Rattle.format.specs.declared.head.Head.the-variants.{Leaf, Hold, Refer, Declare, Foreign, Refuse}
 use Rattle.format.specs.declared.head.Children.{Children}
 use Rattle.format.specs.declared.head.Children.the-variants.{Entries}
-use Rattle.format.specs.Refusal.{numberOf as refusalNumber}
+use Rattle.format.specs.Refusal.{refusalNumber}
 use Rattle.format.specs.Tree.{Tree, leaf, refer, damaged, many, size, sizes}
 use Rattle.format.specs.Head.{headAt, keyAt}
-use Rattle.format.specs.Value.{Reading, right, wrong, Run, leafOwn, kindOf, childCount, childrenOf, keyed, child, isKey, inForce, run, held, declaring, whole, framed, inForeign, value}
+use Rattle.format.specs.Value.{Reading, right, wrong, Readings, leafOwn, kindOf, childCount, childrenOf, keyed, child, isKey, inForce, readings, holding, declaring, whole, framed, inForeign, value}
 use Rattle.format.specs.Layout.{layout, layouts, entries}
 use Rattle.format.proofs.Heads as heads
 use Rattle.format.proofs.Steps as clauses
@@ -35,11 +35,11 @@ use Rattle.format.proofs.Layouts.{no-entry, around-force, in-foreign-few, entri
 use Rattle.measure.specs.declared.measured.Measured.{Measured}
 use Rattle.measure.specs.declared.measured.Measured.the-variants as measured
 use Rattle.measure.specs.Measured.{measuredOf}
-use Rattle.registry.specs.Registry.{walk, chain, Below, firstIn, Based, baseOf}
+use Rattle.registry.specs.Contracts.{walk, chain, Below, firstIn, Based, baseOf}
 use Rattle.registry.proofs.Walks.{chain-at, based-fewer, based-plain, based-rows, below-fewer, below-none, entry-based, entry-below, first-base, first-plain, walk-start}
-use Rattle.leaves.specs.Contracts.{Sane}
+use Rattle.leaves.specs.Contracts.{ContentInside}
 use Rattle.leaves.specs.Contracts as leaves
-use Rattle.reader.specs.Contracts.{behind, placeIn, rowIn, Laid, Right, treeOf, treesOf, Ready, Did, Open, Tried, OpenAll, TriedAll}
+use Rattle.reader.specs.Contracts.{placeAndRow, placeIn, rowIn, Laid, Right, treeRead, treesRead, Ready, Did, Open, Tried, OpenAll, TriedAll}
 use Rattle.reader.proofs.Steps as steps
 use Rattle.reader.proofs.Growth.{below-declared, chain-declared}
 use Rattle.reader.proofs.Children.{run-many, run-rows}
@@ -52,24 +52,24 @@ never X P e p q r = absurd (subst Right q r)
 -- ---- one row laid
 
 pub laid-row : (table : List ℕ) (row next : ℕ) (o : Own) (q : Row) (table' : List ℕ) (f : ℕ) → q ≡ leafRow o row → table' ≡ sets table (wordsPerRow * row) (wordsOf q)
-    → f ≡ behind next (row + 1) → Laid table row o next table' f
+    → f ≡ placeAndRow next (row + 1) → Laid table row o next table' f
 laid-row table row next o q table' f e g p = record { put = g ∙ ap (λ (x : Row). sets table (wordsPerRow * row) (wordsOf x)) e; past = p }
 
 pub laid-reference : (table : List ℕ) (row next n w entry : ℕ) (q : Row) (table' : List ℕ) (f : ℕ) → entry ≡ w → q ≡ leafRow (referenceOwn n entry) row
-    → table' ≡ sets table (wordsPerRow * row) (wordsOf q) → f ≡ behind next (row + 1) → Laid table row (referenceOwn n w) next table' f
+    → table' ≡ sets table (wordsPerRow * row) (wordsOf q) → f ≡ placeAndRow next (row + 1) → Laid table row (referenceOwn n w) next table' f
 laid-reference table row next n w entry q table' f e g h p =
     laid-row table row next (referenceOwn n w) q table' f (g ∙ ap (λ (x : ℕ). leafRow (referenceOwn n x) row) e) h p
 
 -- ---- a sane content
 
-sane-of : (s : List ℕ) (c : Content) (at next : ℕ) → heads.ContentAt s at next c → next ≤ length s → length s ≤ limit → Sane s c
+sane-of : (s : List ℕ) (c : Content) (at next : ℕ) → heads.ContentAt s at next c → next ≤ length s → length s ≤ limit → ContentInside s c
 sane-of s (holds.Constant kind) at next k h l = tt
 sane-of s (holds.Small marker) at next k h l = tt
 sane-of s (holds.Integer signed place n) at next k h l = record { some = k .some; few = k .few; inside = omega (arith, k .ends) }
 sane-of s (holds.Span kind place n) at next k h l = record { place-low = omega (arith, k .ends); size-low = omega (arith, k .ends) }
 sane-of s (holds.Char codepoint) at next k h l = tt
 
-pub head-sane : (s : List ℕ) (at stop : ℕ) (h : Head) → h ≡ headAt s at stop → (c : Content) (next : ℕ) → h ≡ Leaf c next → stop ≤ length s → length s ≤ limit → Sane s c
+pub head-sane : (s : List ℕ) (at stop : ℕ) (h : Head) → h ≡ headAt s at stop → (c : Content) (next : ℕ) → h ≡ Leaf c next → stop ≤ length s → length s ≤ limit → ContentInside s c
 head-sane s at stop h head c next e a b =
     let w = heads.leaf-at s at stop h head c next e in
     sane-of s c at next (w .content) (omega (arith, w .within)) b
@@ -99,7 +99,7 @@ module _ (P : Reading) (table : List ℕ) (row first k : ℕ) where
     -- of a tree whose row says w
     pub one-tried : (t : Tree) (w : Own) → size t ≡ 1 → layout t row (chain table first k) ≡ wordsOf (leafRow w row) → P ≡ right t next → Laid table row w next table' f
         → Tried P table row first k table' f
-    unfolding Right treeOf
+    unfolding Right treeRead
     one-tried t w one says e laid =
         tried-did table' f
         (subst (λ (p : Reading). Ready p table row first k) (sym e) (record { good = tt; room = omega arith; small = omega arith; below = o }))
@@ -133,7 +133,7 @@ module _ (s : List ℕ) (at stop : ℕ) (x : Spelling) (key : x ≡ keyAt s at s
       key-behind = omega (arith, key-low)
 
       pub key-laid : (l : ℕ) → l ≡ lent table → row < l → (q : Row) → q ≡ leafRow (spanOwn kindKey place n) row → (table' : List ℕ) → table' ≡ sets table (wordsPerRow * row) (wordsOf q)
-          → (f : ℕ) → f ≡ behind (place + n) (row + 1) → Tried (keyed at (keyAt s at stop)) table row (firstIn base) k table' f
+          → (f : ℕ) → f ≡ placeAndRow (place + n) (row + 1) → Tried (keyed at (keyAt s at stop)) table row (firstIn base) k table' f
       unfolding layout size
       key-laid l el lt q eq table' g f p =
           one-tried (keyed at (keyAt s at stop)) table row (firstIn base) k (o .below) (omega arith) key-low table' f (place + n) key-past
@@ -229,13 +229,13 @@ module _ (d : ℕ) (s : List ℕ) (k at stop : ℕ) (some-left : 0 < d) (table :
     -- a holder, a declaration, a foreign body: one function each
     module _ (table' : List ℕ) (f : ℕ) where
       pub hold-done : (x : Holder) (n next : ℕ) → h ≡ Hold x n next
-          → Tried (held (holderOwn (kindOf x) n) (run (value (d - 1) s) (childrenOf x) s k 0 (childCount x n) next stop)) table row (firstIn base) k table' f
+          → Tried (holding (holderOwn (kindOf x) n) (readings (value (d - 1) s) (childrenOf x) s k 0 (childCount x n) next stop)) table row (firstIn base) k table' f
           → Tried (value d s k at stop) table row (firstIn base) k table' f
       hold-done x n next e t =
           tried-as (value d s k at stop) table row (firstIn base) k _ table' f (clauses.value-left d s k at stop _ left (clauses.value-hold (d - 1) s k at stop h head x n next e)) t
 
       pub declare-done : (n next : ℕ) → h ≡ Declare n next
-          → Tried (declaring n (run (value (d - 1) s) Entries s 0 0 n next stop) (value (d - 1) s) stop) table row (firstIn base) k table' f
+          → Tried (declaring n (readings (value (d - 1) s) Entries s 0 0 n next stop) (value (d - 1) s) stop) table row (firstIn base) k table' f
           → Tried (value d s k at stop) table row (firstIn base) k table' f
       declare-done n next e t =
           tried-as (value d s k at stop) table row (firstIn base) k _ table' f (clauses.value-left d s k at stop _ left (clauses.value-declare (d - 1) s k at stop h head n next e)) t
@@ -257,7 +257,7 @@ pub open-past : (table : List ℕ) (row base k at stop n : ℕ) → Open table r
 open-past table row base k at stop n o l a b = omega (arith, o .low)
 
 -- nothing was laid
-module _ (h : Head) (s table : List ℕ) (row : ℕ) (table' : List ℕ) (next base k : ℕ) (t : leaves.Tried h s table row table' next) (e : next ≡ 0) where
+module _ (h : Head) (s table : List ℕ) (row : ℕ) (table' : List ℕ) (next base k : ℕ) (t : leaves.LeafTried h s table row table' next) (e : next ≡ 0) where
   pub plain-open : (at : ℕ) → Open table row base k at → Open table' row base k at
   plain-open at o = subst (λ (x : List ℕ). Open x row base k at) (sym (t .kept e)) o
 
@@ -265,12 +265,12 @@ module _ (h : Head) (s table : List ℕ) (row : ℕ) (table' : List ℕ) (next b
   plain-not P table'' f u = subst (λ (x : List ℕ). Tried P x row (firstIn base) k table'' f) (t .kept e) u
 
 pub plain-next : (s : List ℕ) (at stop : ℕ) (table : List ℕ) (row : ℕ) (table' : List ℕ) (next : ℕ) → stop ≤ length s → length s ≤ limit
-    → leaves.Tried (headAt s at stop) s table row table' next → (next ≡ 0 → ⊥) → next ≤ limit
+    → leaves.LeafTried (headAt s at stop) s table row table' next → (next ≡ 0 → ⊥) → next ≤ limit
 plain-next s at stop table row table' next a b t z = let w = t .laid z in omega (arith, heads.leaf-within s at stop (headAt s at stop) refl (w .content) next (w .is))
 
 pub plain-done : (d : ℕ) (s : List ℕ) (k at stop : ℕ) → (d ≡ 0 → ⊥) → (table : List ℕ) (row base : ℕ) → Open table row base k at → (l : ℕ) → l ≡ lent table → row < l
-    → stop ≤ length s → length s ≤ limit → (table' : List ℕ) (next : ℕ) → leaves.Tried (headAt s at stop) s table row table' next → (next ≡ 0 → ⊥)
-    → (f : ℕ) → f ≡ behind next (row + 1) → Tried (value d s k at stop) table row (firstIn base) k table' f
+    → stop ≤ length s → length s ≤ limit → (table' : List ℕ) (next : ℕ) → leaves.LeafTried (headAt s at stop) s table row table' next → (next ≡ 0 → ⊥)
+    → (f : ℕ) → f ≡ placeAndRow next (row + 1) → Tried (value d s k at stop) table row (firstIn base) k table' f
 plain-done d s k at stop left table row base o l el lt a b table' next t z f e =
     let w = t .laid z in
     leaf-done d s k at stop (omega arith) table row base (headAt s at stop) refl o (omega arith) a b (w .content) next (w .is) table' f (record { put = w .put; past = e })
@@ -291,33 +291,33 @@ module _ (x : Holder) (w d : ℕ) (s : List ℕ) (k at stop : ℕ) (table : List
         some = omega arith;
       })
 
-  module _ (table₁ : List ℕ) (f : ℕ) (t : TriedAll (run (value d s) c s k 0 m at stop) c table (row + 1) (firstIn base) k 0 table₁ f) where
+  module _ (table₁ : List ℕ) (f : ℕ) (t : TriedAll (readings (value d s) c s k 0 m at stop) c table (row + 1) (firstIn base) k 0 table₁ f) where
     abbrev o' : Own
     o' = holderOwn (kindOf x) w
 
-    abbrev Q : Run
-    Q = run (value d s) (childrenOf x) s k 0 (childCount x w) at stop
+    abbrev Q : Readings
+    Q = readings (value d s) (childrenOf x) s k 0 (childCount x w) at stop
 
     all : TriedAll Q (childrenOf x) table (row + 1) (firstIn base) k 0 table₁ f
     all = rw (ec, em) at t
 
-    pub children-broken : f ≡ 0 → Tried (held (holderOwn (kindOf x) w) (run (value d s) (childrenOf x) s k 0 (childCount x w) at stop)) table row (firstIn base) k table₁ 0
-    children-broken e = tried-none (held o' Q) table row (firstIn base) k table₁ (t .same) (λ r. all .failed e (steps.hold-ready x o' Q table row (firstIn base) k r))
+    pub children-broken : f ≡ 0 → Tried (holding (holderOwn (kindOf x) w) (readings (value d s) (childrenOf x) s k 0 (childCount x w) at stop)) table row (firstIn base) k table₁ 0
+    children-broken e = tried-none (holding o' Q) table row (firstIn base) k table₁ (t .same) (λ r. all .failed e (steps.hold-ready x o' Q table row (firstIn base) k r))
 
     pub children-lent : row < lent table₁
     children-lent = omega (arith, t .same)
 
     module _ (z : f ≡ 0 → ⊥) where
-      hold-whole : Ready (held o' Q) table row (firstIn base) k
+      hold-whole : Ready (holding o' Q) table row (firstIn base) k
       hold-whole = steps.hold-up x o' Q table row (firstIn base) k (o .below) (all .ready z)
 
       pub children-end : (end : ℕ) → end ≡ rowIn f → end ≤ limit
       children-end end e = omega (arith, steps.hold-end x o' Q table row (firstIn base) k hold-whole table₁ (placeIn f) (rowIn f) (all .did z))
 
       pub children-done : (end kind : ℕ) (q : Row) (table₂ : List ℕ) → end ≡ rowIn f → kind ≡ kindOf x → q ≡ rowOf (holderOwn kind w) end → table₂ ≡ sets table₁ (wordsPerRow * row) (wordsOf q)
-          → Tried (held (holderOwn (kindOf x) w) (run (value d s) (childrenOf x) s k 0 (childCount x w) at stop)) table row (firstIn base) k table₂ f
+          → Tried (holding (holderOwn (kindOf x) w) (readings (value d s) (childrenOf x) s k 0 (childCount x w) at stop)) table row (firstIn base) k table₂ f
       children-done end kind q table₂ ee f' e g =
-          tried-did (held o' Q) table row (firstIn base) k table₂ f hold-whole
+          tried-did (holding o' Q) table row (firstIn base) k table₂ f hold-whole
           (steps.hold-did x o' Q table row (firstIn base) k hold-whole table₁ (placeIn f) (rowIn f) (all .did z) q table₂
           (e ∙ ap (λ (y : ℕ). rowOf (holderOwn y w) end) f' ∙ ap (rowOf o') ee) g) z
 
@@ -340,36 +340,36 @@ module _ (n d : ℕ) (s : List ℕ) (at stop : ℕ) (table : List ℕ) (row base
         some = omega arith;
       }
 
-  abbrev es : Run
-  es = run (value d s) Entries s 0 0 n at stop
+  abbrev es : Readings
+  es = readings (value d s) Entries s 0 0 n at stop
 
-  module _ (table₁ : List ℕ) (f : ℕ) (t′ : TriedAll (run (value d s) Entries s 0 0 n at stop) Entries table (row + 1) (firstIn (row + 1)) 0 0 table₁ f) where
+  module _ (table₁ : List ℕ) (f : ℕ) (t′ : TriedAll (readings (value d s) Entries s 0 0 n at stop) Entries table (row + 1) (firstIn (row + 1)) 0 0 table₁ f) where
     t : TriedAll es Entries table (row + 1) (row + 1) 0 0 table₁ f
     t = rw (first-plain (row + 1) under) at t′
 
-    pub entries-broken : f ≡ 0 → Tried (declaring n (run (value d s) Entries s 0 0 n at stop) (value d s) stop) table row (firstIn base) k table₁ 0
+    pub entries-broken : f ≡ 0 → Tried (declaring n (readings (value d s) Entries s 0 0 n at stop) (value d s) stop) table row (firstIn base) k table₁ 0
     entries-broken e =
         tried-none (declaring n es (value d s) stop) table row (firstIn base) k table₁ (t .same) (λ r. t .failed e (steps.entries-ready n es (value d s) stop table row (firstIn base) k r))
 
     module _ (z : f ≡ 0 → ⊥) where
-      count : many (treesOf es) ≡ n
+      count : many (treesRead es) ≡ n
       count = run-many (value d s) Entries s 0 0 n at stop (t .ready z .good)
 
       -- what the entries leave
       left-low : rowIn f ≤ placeIn f
       left-low = omega (arith, t .did z .past, t .did z .place, run-rows at stop es (values-run d Entries s 0 0 n at stop inside) (t .ready z .good))
 
-      own-words : table₁ ≡ sets table (wordsPerRow * (row + 1)) (layouts (treesOf es) true (row + 1) [])
+      own-words : table₁ ≡ sets table (wordsPerRow * (row + 1)) (layouts (treesRead es) true (row + 1) [])
       unfolding chain
       own-words = t .did z .words
 
       own-below : Below table₁ (row + 1) n (rowIn f)
       own-below =
-          rw (own-words, t .did z .past) (subst (λ (m : ℕ). Below (sets table (wordsPerRow * (row + 1)) (layouts (treesOf es) true (row + 1) [])) (row + 1) m (row + 1 + sizes (treesOf es)))
-          count (below-declared (treesOf es) table (row + 1) (t .ready z .room)))
+          rw (own-words, t .did z .past) (subst (λ (m : ℕ). Below (sets table (wordsPerRow * (row + 1)) (layouts (treesRead es) true (row + 1) [])) (row + 1) m (row + 1 + sizes (treesRead es)))
+          count (below-declared (treesRead es) table (row + 1) (t .ready z .room)))
 
-      own-chain : chain table₁ (row + 1) n ≡ entries (treesOf es) (row + 1) []
-      own-chain = rw own-words (subst (λ (m : ℕ). chain (sets table (wordsPerRow * (row + 1)) (layouts (treesOf es) true (row + 1) [])) (row + 1) m ≡ entries (treesOf es) (row + 1) []) count (chain-declared (treesOf es) table (row + 1) (t .ready z .room)))
+      own-chain : chain table₁ (row + 1) n ≡ entries (treesRead es) (row + 1) []
+      own-chain = rw own-words (subst (λ (m : ℕ). chain (sets table (wordsPerRow * (row + 1)) (layouts (treesRead es) true (row + 1) [])) (row + 1) m ≡ entries (treesRead es) (row + 1) []) count (chain-declared (treesRead es) table (row + 1) (t .ready z .room)))
 
       module _ (next own inner : ℕ) (en : next ≡ placeIn f) (eo : own ≡ rowIn f) (ei : inner ≡ baseOf (row + 1) own n) where
         first-inner : firstIn inner ≡ row + 1
@@ -379,7 +379,7 @@ module _ (n d : ℕ) (s : List ℕ) (at stop : ℕ) (table : List ℕ) (row base
         own-open =
             record {
               below = rw (first-inner, eo) own-below;
-              based = rw (ei, eo) (based-rows table₁ (row + 1) (rowIn f) n (entries (treesOf es) (row + 1) []) under own-chain (entries-each (treesOf es) (row + 1) (rowIn f) n count (t .did z .past)));
+              based = rw (ei, eo) (based-rows table₁ (row + 1) (rowIn f) n (entries (treesRead es) (row + 1) []) under own-chain (entries-each (treesRead es) (row + 1) (rowIn f) n count (t .did z .past)));
               low = omega (arith, left-low);
             }
 
@@ -387,7 +387,7 @@ module _ (n d : ℕ) (s : List ℕ) (at stop : ℕ) (table : List ℕ) (row base
           u : Tried (value d s n (placeIn f) stop) table₁ (rowIn f) (row + 1) n table₂ g
           u = rw (first-inner, en, eo) at u′
 
-          pub own-broken : g ≡ 0 → Tried (declaring n (run (value d s) Entries s 0 0 n at stop) (value d s) stop) table row (firstIn base) k table₂ 0
+          pub own-broken : g ≡ 0 → Tried (declaring n (readings (value d s) Entries s 0 0 n at stop) (value d s) stop) table row (firstIn base) k table₂ 0
           own-broken e =
               tried-none (declaring n es (value d s) stop) table row (firstIn base) k table₂ (u .same ∙ t .same)
               (λ r. u .failed e (steps.own-ready n es (value d s) stop table row (firstIn base) k r table₁ (placeIn f) (rowIn f) (t .did z) count))
@@ -406,7 +406,7 @@ module _ (n d : ℕ) (s : List ℕ) (at stop : ℕ) (table : List ℕ) (row base
                 omega (arith, steps.declare-end n es (value d s) stop table row (firstIn base) k declare-whole table₁ (placeIn f) (rowIn f) (t .did z) count table₂ (placeIn g) (rowIn g) (u .did y))
 
             pub declared-done : (end : ℕ) (q : Row) (table₃ : List ℕ) → end ≡ rowIn g → q ≡ rowOf (declarationOwn n) end → table₃ ≡ sets table₂ (wordsPerRow * row) (wordsOf q)
-                → Tried (declaring n (run (value d s) Entries s 0 0 n at stop) (value d s) stop) table row (firstIn base) k table₃ g
+                → Tried (declaring n (readings (value d s) Entries s 0 0 n at stop) (value d s) stop) table row (firstIn base) k table₃ g
             declared-done end q table₃ ee e h =
                 tried-did (declaring n es (value d s) stop) table row (firstIn base) k table₃ g declare-whole
                 (steps.declare-did n es (value d s) stop table row (firstIn base) k declare-whole table₁ (placeIn f) (rowIn f) (t .did z) count table₂ (placeIn g) (rowIn g) (u .did y) q table₃
@@ -418,8 +418,8 @@ module _ (n d : ℕ) (s : List ℕ) (at stop : ℕ) (table : List ℕ) (row base
 
 -- ---- a foreign body
 
-measured-right : (x : Reading) (rows next : ℕ) → measuredOf x ≡ measured.Right rows next → x ≡ right (treeOf x) next
-unfolding treeOf
+measured-right : (x : Reading) (rows next : ℕ) → measuredOf x ≡ measured.Right rows next → x ≡ right (treeRead x) next
+unfolding treeRead
 measured-right (right t n) rows next e = let i : n ≡ next = cc in ap (right t) i
 measured-right (wrong y p) rows next e = absurd (let z : _≡_ {A = ℕ} 0 1 = cc in omega arith)
 

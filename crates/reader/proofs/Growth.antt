@@ -10,7 +10,7 @@ use Rattle.rows.specs.Table.{wordsPerRow, lent}
 use Rattle.rows.proofs.Rows.{lent-sets}
 use Rattle.format.specs.Tree.{Tree, Trees, none, more, many, size, sizes}
 use Rattle.format.specs.Layout.{layout, layouts, entries, grown}
-use Rattle.registry.specs.Registry.{walk, chain, Below}
+use Rattle.registry.specs.Contracts.{walk, chain, Below}
 use Rattle.format.proofs.Layouts.{size-pos, laid-end, lay-more}
 use Rattle.registry.proofs.Walks.{chain-grown, walk-grown, below-grown, walk-sets, chain-sets, below-sets, below-none, walk-start}
 

@@ -14,10 +14,10 @@ use Rattle.rows.proofs.Rows.{lent-sets}
 use Rattle.format.specs.declared.head.Holder.{Holder}
 use Rattle.format.specs.declared.head.Children.the-variants.{Entries}
 use Rattle.format.specs.Tree.{many, Tree, foreign, size, sizes}
-use Rattle.format.specs.Value.{Reading, right, wrong, Run, ran, broke, Reader, closed, childrenOf, held, declaring, whole, inForeign, framed}
+use Rattle.format.specs.Value.{Reading, right, wrong, Readings, ran, broke, Reader, closed, childrenOf, holding, declaring, whole, inForeign, framed}
 use Rattle.format.specs.Layout.{layout, layouts, entries, inBody}
-use Rattle.registry.specs.Registry.{chain, Below}
-use Rattle.reader.specs.Contracts.{behind, placeIn, rowIn, Laid, Right, treeOf, nextOf, Ran, treesOf, nextsOf, Ready, Did, ReadyAll, DidAll}
+use Rattle.registry.specs.Contracts.{chain, Below}
+use Rattle.reader.specs.Contracts.{placeAndRow, placeIn, rowIn, Laid, Right, treeRead, nextOf, Ran, treesRead, nextsOf, Ready, Did, ReadyAll, DidAll}
 use Rattle.registry.proofs.Walks.{chain-fewer, length-chain, below-fewer, below-none, walk-start}
 use Rattle.format.proofs.Layouts.{no-entry, around-force, in-foreign-few, size-pos, lay-hold, lay-foreign, lay-declare}
 use Rattle.reader.proofs.Growth.{chain-declared, below-declared}
@@ -34,7 +34,7 @@ did-as P P' table row first k table' at' row' e d = subst (λ (p : Reading). Did
 
 -- its own row is lent, and is below the limit
 pub ready-lent : (P : Reading) (table : List ℕ) (row first k : ℕ) → Ready P table row first k → row < lent table
-ready-lent P table row first k r = omega (arith, size-pos (treeOf P), r .room)
+ready-lent P table row first k r = omega (arith, size-pos (treeRead P), r .room)
 
 pub did-length : (P : Reading) (table : List ℕ) (row first k : ℕ) (table' : List ℕ) (at' row' : ℕ) → Did P table row first k table' at' row'
     → length table' ≡ length table
@@ -42,16 +42,16 @@ did-length P table row first k table' at' row' d = ap length (d .words) ∙ simp
 
 -- ---- one row
 
-pub place-in : (next row f : ℕ) → next ≤ limit → f ≡ behind next row → placeIn f ≡ next
+pub place-in : (next row f : ℕ) → next ≤ limit → f ≡ placeAndRow next row → placeIn f ≡ next
 place-in next row f h e = rw e (omega arith)
 
-pub row-in : (next row f : ℕ) → next ≤ limit → f ≡ behind next row → rowIn f ≡ row
+pub row-in : (next row f : ℕ) → next ≤ limit → f ≡ placeAndRow next row → rowIn f ≡ row
 row-in next row f h e = rw e (omega arith)
 
 -- a tree whose one row says o
 pub one-laid : (t : Tree) (o : Own) (next : ℕ) (table : List ℕ) (row first k : ℕ) → size t ≡ 1 → layout t row (chain table first k) ≡ wordsOf (leafRow o row)
     → (table' : List ℕ) (f : ℕ) → next ≤ limit → Laid table row o next table' f → Did (right t next) table row first k table' (placeIn f) (rowIn f)
-unfolding treeOf nextOf
+unfolding treeRead nextOf
 one-laid t o next table row first k one says table' f h l =
     record {
       words = l .put ∙ ap (sets table (wordsPerRow * row)) (sym says);
@@ -61,8 +61,8 @@ one-laid t o next table row first k one says table' f h l =
 
 -- ---- a holder
 
-module _ (h : Holder) (o : Own) (Q : Run) (table : List ℕ) (row first k : ℕ) (r : Ready (held o Q) table row first k) where
-  hold-rows : size (treeOf (held o Q)) ≡ 1 + sizes (treesOf Q)
+module _ (h : Holder) (o : Own) (Q : Readings) (table : List ℕ) (row first k : ℕ) (r : Ready (holding o Q) table row first k) where
+  hold-rows : size (treeRead (holding o Q)) ≡ 1 + sizes (treesRead Q)
   unfolding size
   hold-rows = ap size (held-view o Q (r .good) .is)
 
@@ -82,28 +82,28 @@ module _ (h : Holder) (o : Own) (Q : Run) (table : List ℕ) (row first k : ℕ)
     hold-end = let z = hold-rows in omega (arith, r .small, d .past)
 
     pub hold-did : (q : Row) (table₂ : List ℕ) → q ≡ rowOf o row₁ → table₂ ≡ sets table₁ (wordsPerRow * row) (wordsOf q)
-        → Did (held o Q) table row first k table₂ at₁ row₁
+        → Did (holding o Q) table row first k table₂ at₁ row₁
     hold-did q table₂ e f =
         let v = held-view o Q (r .good) in
-        let past : row₁ ≡ row + (1 + sizes (treesOf Q)) = omega (arith, d .past) in
-        let under : table₁ ≡ sets table (wordsPerRow * (row + 1)) (layouts (treesOf Q) false (row + 1) (chain table first k)) = rw (no-entry, around-force) at (d .words) in
+        let past : row₁ ≡ row + (1 + sizes (treesRead Q)) = omega (arith, d .past) in
+        let under : table₁ ≡ sets table (wordsPerRow * (row + 1)) (layouts (treesRead Q) false (row + 1) (chain table first k)) = rw (no-entry, around-force) at (d .words) in
         record {
-          words = cc (past, under, lay-hold table o (treesOf Q) row (chain table first k), v .is);
+          words = cc (past, under, lay-hold table o (treesRead Q) row (chain table first k), v .is);
           place = d .place ∙ sym (v .ends);
           past = past ∙ ap (λ (m : ℕ). row + m) (sym hold-rows);
         }
 
 -- what its children have room for, it has
-pub hold-up : (h : Holder) (o : Own) (Q : Run) (table : List ℕ) (row first k : ℕ) → Below table first k row → ReadyAll Q (childrenOf h) table (row + 1) first k 0
-    → Ready (held o Q) table row first k
-unfolding Right treeOf Ran treesOf size
+pub hold-up : (h : Holder) (o : Own) (Q : Readings) (table : List ℕ) (row first k : ℕ) → Below table first k row → ReadyAll Q (childrenOf h) table (row + 1) first k 0
+    → Ready (holding o Q) table row first k
+unfolding Right treeRead Ran treesRead size
 hold-up h o (ran ts next) table row first k b r = record { good = tt; room = omega (arith, r .room); small = omega (arith, r .small); below = b }
 hold-up h o (broke e place) table row first k b r = absurd (r .good)
 
 -- ---- a declaration
 
-module _ (n : ℕ) (Q : Run) (R : Reader) (stop : ℕ) (table : List ℕ) (row first k : ℕ) (r : Ready (declaring n Q R stop) table row first k) where
-  declare-rows : size (treeOf (declaring n Q R stop)) ≡ 1 + (sizes (treesOf Q) + size (treeOf (R n (nextsOf Q) stop)))
+module _ (n : ℕ) (Q : Readings) (R : Reader) (stop : ℕ) (table : List ℕ) (row first k : ℕ) (r : Ready (declaring n Q R stop) table row first k) where
+  declare-rows : size (treeRead (declaring n Q R stop)) ≡ 1 + (sizes (treesRead Q) + size (treeRead (R n (nextsOf Q) stop)))
   unfolding size
   declare-rows = ap size (declare-view n Q R stop (r .good) .is)
 
@@ -118,16 +118,16 @@ module _ (n : ℕ) (Q : Run) (R : Reader) (stop : ℕ) (table : List ℕ) (row f
         linked = λ e. sym (walk-start table (row + 1));
       }
 
-  module _ (table₁ : List ℕ) (at₁ row₁ : ℕ) (d : DidAll Q Entries table (row + 1) (row + 1) 0 0 table₁ at₁ row₁) (count : many (treesOf Q) ≡ n) where
-    entries-words : table₁ ≡ sets table (wordsPerRow * (row + 1)) (layouts (treesOf Q) true (row + 1) [])
+  module _ (table₁ : List ℕ) (at₁ row₁ : ℕ) (d : DidAll Q Entries table (row + 1) (row + 1) 0 0 table₁ at₁ row₁) (count : many (treesRead Q) ≡ n) where
+    entries-words : table₁ ≡ sets table (wordsPerRow * (row + 1)) (layouts (treesRead Q) true (row + 1) [])
     unfolding chain
     entries-words = d .words
 
-    entries-room : row + 1 + sizes (treesOf Q) ≤ lent table
+    entries-room : row + 1 + sizes (treesRead Q) ≤ lent table
     entries-room = let z = declare-rows in omega (arith, r .room)
 
     entries-lent : lent table₁ ≡ lent table
-    entries-lent = ap lent entries-words ∙ lent-sets table (wordsPerRow * (row + 1)) (layouts (treesOf Q) true (row + 1) [])
+    entries-lent = ap lent entries-words ∙ lent-sets table (wordsPerRow * (row + 1)) (layouts (treesRead Q) true (row + 1) [])
 
     pub own-ready : Ready (R n at₁ stop) table₁ row₁ (row + 1) n
     own-ready =
@@ -136,14 +136,14 @@ module _ (n : ℕ) (Q : Run) (R : Reader) (stop : ℕ) (table : List ℕ) (row f
           good = declare-view n Q R stop (r .good) .own;
           room = omega (arith, r .room, d .past, entries-lent);
           small = omega (arith, r .small, d .past);
-          below = rw (entries-words, d .past, ← count) (below-declared (treesOf Q) table (row + 1) entries-room);
+          below = rw (entries-words, d .past, ← count) (below-declared (treesRead Q) table (row + 1) entries-room);
         })
 
     module _ (table₂ : List ℕ) (at₂ row₂ : ℕ) (o : Did (R n at₁ stop) table₁ row₁ (row + 1) n table₂ at₂ row₂) where
       own : Did (R n (nextsOf Q) stop) table₁ row₁ (row + 1) n table₂ at₂ row₂
       own = subst (λ (a : ℕ). Did (R n a stop) table₁ row₁ (row + 1) n table₂ at₂ row₂) (d .place) o
 
-      declare-past : row₂ ≡ row + (1 + (sizes (treesOf Q) + size (treeOf (R n (nextsOf Q) stop))))
+      declare-past : row₂ ≡ row + (1 + (sizes (treesRead Q) + size (treeRead (R n (nextsOf Q) stop))))
       declare-past = omega (arith, own .past, d .past)
 
       pub declare-end : row₂ ≤ limit
@@ -153,18 +153,18 @@ module _ (n : ℕ) (Q : Run) (R : Reader) (stop : ℕ) (table : List ℕ) (row f
           → Did (declaring n Q R stop) table row first k table₃ at₂ row₂
       declare-did q table₃ e f =
           let v = declare-view n Q R stop (r .good) in
-          let u : Tree = treeOf (R n (nextsOf Q) stop) in
-          let reg : chain table₁ (row + 1) n ≡ entries (treesOf Q) (row + 1) [] = cc (entries-words, chain-declared (treesOf Q) table (row + 1) entries-room) in
+          let u : Tree = treeRead (R n (nextsOf Q) stop) in
+          let reg : chain table₁ (row + 1) n ≡ entries (treesRead Q) (row + 1) [] = cc (entries-words, chain-declared (treesRead Q) table (row + 1) entries-room) in
           record {
-            words = cc (own .words, d .past, entries-words, reg, declare-past, lay-declare table (declarationOwn n) (treesOf Q) u row (chain table first k), v .is);
+            words = cc (own .words, d .past, entries-words, reg, declare-past, lay-declare table (declarationOwn n) (treesRead Q) u row (chain table first k), v .is);
             place = own .place ∙ sym (v .ends);
             past = declare-past ∙ ap (λ (m : ℕ). row + m) (sym declare-rows);
           }
 
-pub declare-up : (n : ℕ) (Q : Run) (R : Reader) (stop : ℕ) (table : List ℕ) (row first k : ℕ) → Below table first k row → Ran Q
-    → (table₁ : List ℕ) (row₁ : ℕ) → length table₁ ≡ length table → row₁ ≡ row + 1 + sizes (treesOf Q) → Ready (R n (nextsOf Q) stop) table₁ row₁ (row + 1) n
+pub declare-up : (n : ℕ) (Q : Readings) (R : Reader) (stop : ℕ) (table : List ℕ) (row first k : ℕ) → Below table first k row → Ran Q
+    → (table₁ : List ℕ) (row₁ : ℕ) → length table₁ ≡ length table → row₁ ≡ row + 1 + sizes (treesRead Q) → Ready (R n (nextsOf Q) stop) table₁ row₁ (row + 1) n
     → Ready (declaring n Q R stop) table row first k
-unfolding Right treeOf Ran treesOf nextsOf size
+unfolding Right treeRead Ran treesRead nextsOf size
 declare-up n (ran es next) R stop table row first k b g table₁ row₁ same past r = go (R n next stop) refl
   where
     go : (P : Reading) → R n next stop ≡ P → Ready (closed n es P) table row first k
@@ -184,9 +184,9 @@ chain-body table first k =
 
 module _ (place n : ℕ) (R : Reading) (good : Right (whole (place + n) R)) (table : List ℕ) (row first k : ℕ) where
   module _ (r : Ready (framed place n (whole (place + n) R)) table row first k) where
-    foreign-rows : size (treeOf (framed place n (whole (place + n) R))) ≡ 1 + size (treeOf R)
-    unfolding treeOf size
-    foreign-rows = ap (λ (p : Reading). size (treeOf p)) (framed-view place n R good .is)
+    foreign-rows : size (treeRead (framed place n (whole (place + n) R))) ≡ 1 + size (treeRead R)
+    unfolding treeRead size
+    foreign-rows = ap (λ (p : Reading). size (treeRead p)) (framed-view place n R good .is)
 
     pub foreign-ready : Ready R table (row + 1) first (inForeign k)
     foreign-ready =
@@ -199,7 +199,7 @@ module _ (place n : ℕ) (R : Reading) (good : Right (whole (place + n) R)) (tab
         }
 
     module _ (table₁ : List ℕ) (at₁ row₁ : ℕ) (d : Did R table (row + 1) first (inForeign k) table₁ at₁ row₁) where
-      foreign-past : row₁ ≡ row + (1 + size (treeOf R))
+      foreign-past : row₁ ≡ row + (1 + size (treeRead R))
       foreign-past = omega (arith, d .past)
 
       pub foreign-end : row₁ ≤ limit
@@ -207,17 +207,17 @@ module _ (place n : ℕ) (R : Reading) (good : Right (whole (place + n) R)) (tab
 
       pub foreign-did : (q : Row) (table₂ : List ℕ) → q ≡ rowOf foreignOwn row₁ → table₂ ≡ sets table₁ (wordsPerRow * row) (wordsOf q)
           → Did (framed place n (whole (place + n) R)) table row first k table₂ at₁ row₁
-      unfolding treeOf nextOf
+      unfolding treeRead nextOf
       foreign-did q table₂ e f =
           let v = framed-view place n R good in
           record {
-            words = cc (d .words, foreign-past, chain-body table first k, lay-foreign table foreignOwn (treeOf R) row (chain table first k), ap treeOf (v .is));
+            words = cc (d .words, foreign-past, chain-body table first k, lay-foreign table foreignOwn (treeRead R) row (chain table first k), ap treeRead (v .is));
             place = d .place ∙ v .ends ∙ sym (ap nextOf (v .is));
             past = foreign-past ∙ ap (λ (m : ℕ). row + m) (sym foreign-rows);
           }
 
   pub foreign-up : Below table first k row → Ready R table (row + 1) first (inForeign k) → Ready (framed place n (whole (place + n) R)) table row first k
-  unfolding Right treeOf size
+  unfolding Right treeRead size
   foreign-up b r =
-      let u : Ready (right (foreign foreignOwn (treeOf R)) (place + n)) table row first k = record { good = tt; room = omega (arith, r .room); small = omega (arith, r .small); below = b } in
+      let u : Ready (right (foreign foreignOwn (treeRead R)) (place + n)) table row first k = record { good = tt; room = omega (arith, r .room); small = omega (arith, r .small); below = b } in
       subst (λ (p : Reading). Ready p table row first k) (sym (framed-view place n R good .is)) u

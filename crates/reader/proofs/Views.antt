@@ -7,31 +7,31 @@ use borrow.Author.Tests.{eqb-true}
 use Rattle.rows.specs.Table.{Own}
 use Rattle.rows.specs.Kinds.{declarationOwn, foreignOwn}
 use Rattle.format.specs.Tree.{hold, declare, foreign, more}
-use Rattle.format.specs.Value.{Reading, right, wrong, Run, ran, broke, Reader, ahead, follow, held, closed, declaring, ended, whole, framed}
-use Rattle.reader.specs.Contracts.{Right, treeOf, nextOf, Ran, treesOf, nextsOf}
+use Rattle.format.specs.Value.{Reading, right, wrong, Readings, ran, broke, Reader, ahead, follow, holding, closed, declaring, ended, whole, framed}
+use Rattle.reader.specs.Contracts.{Right, treeRead, nextOf, Ran, treesRead, nextsOf}
 
 -- ---- a value position, by its head
 
-pub record Held (o : Own) (Q : Run) : Type 0 where
+pub record Holding (o : Own) (Q : Readings) : Type 0 where
   pub good : Ran Q
-  pub is : treeOf (held o Q) ≡ hold o (treesOf Q)
-  pub ends : nextOf (held o Q) ≡ nextsOf Q
+  pub is : treeRead (holding o Q) ≡ hold o (treesRead Q)
+  pub ends : nextOf (holding o Q) ≡ nextsOf Q
 
-pub held-view : (o : Own) (Q : Run) → Right (held o Q) → Held o Q
-unfolding Right treeOf nextOf Ran treesOf nextsOf
+pub held-view : (o : Own) (Q : Readings) → Right (holding o Q) → Holding o Q
+unfolding Right treeRead nextOf Ran treesRead nextsOf
 held-view o (ran ts next) h = record { good = tt; is = refl; ends = refl }
 held-view o (broke e place) h = absurd h
 
 -- ---- a declaration, its entries and its value
 
-pub record Declared (n : ℕ) (Q : Run) (R : Reader) (stop : ℕ) : Type 0 where
+pub record Declared (n : ℕ) (Q : Readings) (R : Reader) (stop : ℕ) : Type 0 where
   pub good : Ran Q
   pub own : Right (R n (nextsOf Q) stop)
-  pub is : treeOf (declaring n Q R stop) ≡ declare (declarationOwn n) (treesOf Q) (treeOf (R n (nextsOf Q) stop))
+  pub is : treeRead (declaring n Q R stop) ≡ declare (declarationOwn n) (treesRead Q) (treeRead (R n (nextsOf Q) stop))
   pub ends : nextOf (declaring n Q R stop) ≡ nextOf (R n (nextsOf Q) stop)
 
-pub declare-view : (n : ℕ) (Q : Run) (R : Reader) (stop : ℕ) → Right (declaring n Q R stop) → Declared n Q R stop
-unfolding Right treeOf nextOf Ran treesOf nextsOf
+pub declare-view : (n : ℕ) (Q : Readings) (R : Reader) (stop : ℕ) → Right (declaring n Q R stop) → Declared n Q R stop
+unfolding Right treeRead nextOf Ran treesRead nextsOf
 declare-view n (ran es place) R stop h = go (R n place stop) refl h
   where
     go : (P : Reading) → R n place stop ≡ P → Right (closed n es P) → Declared n (ran es place) R stop
@@ -39,7 +39,7 @@ declare-view n (ran es place) R stop h = go (R n place stop) refl h
         record {
           good = tt;
           own = subst Right (sym e) tt;
-          is = ap (λ (p : Reading). treeOf (closed n es p)) e ∙ ap (λ (p : Reading). declare (declarationOwn n) es (treeOf p)) (sym e);
+          is = ap (λ (p : Reading). treeRead (closed n es p)) e ∙ ap (λ (p : Reading). declare (declarationOwn n) es (treeRead p)) (sym e);
           ends = ap (λ (p : Reading). nextOf (closed n es p)) e ∙ ap nextOf (sym e);
         }
     go (wrong why at) e good = absurd good
@@ -50,10 +50,10 @@ declare-view n (broke e place) R stop h = absurd h
 pub record Framed (place n : ℕ) (R : Reading) : Type 0 where
   pub good : Right R
   pub ends : nextOf R ≡ place + n
-  pub is : framed place n (whole (place + n) R) ≡ right (foreign foreignOwn (treeOf R)) (place + n)
+  pub is : framed place n (whole (place + n) R) ≡ right (foreign foreignOwn (treeRead R)) (place + n)
 
 pub framed-view : (place n : ℕ) (R : Reading) → Right (whole (place + n) R) → Framed place n R
-unfolding Right treeOf nextOf
+unfolding Right treeRead nextOf
 framed-view place n (right t next) h = go (eqb next (place + n)) refl h
   where
     go : (b : Bool) → eqb next (place + n) ≡ b → Right (ended b t next) → Framed place n (right t next)
@@ -63,23 +63,23 @@ framed-view place n (wrong why at) h = absurd h
 
 -- ---- positions in a row
 
-pub record Followed (P : Reading) (F : ℕ → Run) : Type 0 where
+pub record Followed (P : Reading) (F : ℕ → Readings) : Type 0 where
   pub good : Right P
   pub rest : Ran (F (nextOf P))
-  pub are : treesOf (follow P F) ≡ more (treeOf P) (treesOf (F (nextOf P)))
+  pub are : treesRead (follow P F) ≡ more (treeRead P) (treesRead (F (nextOf P)))
   pub ends : nextsOf (follow P F) ≡ nextsOf (F (nextOf P))
 
-pub follow-view : (P : Reading) (F : ℕ → Run) → Ran (follow P F) → Followed P F
-unfolding Right treeOf nextOf Ran treesOf nextsOf
+pub follow-view : (P : Reading) (F : ℕ → Readings) → Ran (follow P F) → Followed P F
+unfolding Right treeRead nextOf Ran treesRead nextsOf
 follow-view (right t next) F h = go (F next) refl h
   where
-    go : (Q : Run) → F next ≡ Q → Ran (ahead t Q) → Followed (right t next) F
+    go : (Q : Readings) → F next ≡ Q → Ran (ahead t Q) → Followed (right t next) F
     go (ran ts place) e good =
         record {
           good = tt;
           rest = subst Ran (sym e) tt;
-          are = ap (λ (q : Run). treesOf (ahead t q)) e ∙ ap (λ (q : Run). more t (treesOf q)) (sym e);
-          ends = ap (λ (q : Run). nextsOf (ahead t q)) e ∙ ap nextsOf (sym e);
+          are = ap (λ (q : Readings). treesRead (ahead t q)) e ∙ ap (λ (q : Readings). more t (treesRead q)) (sym e);
+          ends = ap (λ (q : Readings). nextsOf (ahead t q)) e ∙ ap nextsOf (sym e);
         }
     go (broke why at) e good = absurd good
 follow-view (wrong why at) F h = absurd h

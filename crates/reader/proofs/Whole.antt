@@ -13,8 +13,8 @@ use Rattle.rows.specs.Table.{wordsPerRow, lent, limit}
 use Rattle.format.specs.Tree.{size}
 use Rattle.format.specs.Value.{Reading}
 use Rattle.format.specs.Layout.{layout}
-use Rattle.registry.specs.Registry.{chain}
-use Rattle.reader.specs.Contracts.{Right, treeOf, Ready, Did}
+use Rattle.registry.specs.Contracts.{chain}
+use Rattle.reader.specs.Contracts.{Right, treeRead, Ready, Did}
 use Rattle.registry.proofs.Walks.{below-none}
 use Rattle.format.proofs.Layouts.{length-layout}
 
@@ -34,15 +34,15 @@ pub zeros-alike : (l m : List ℕ) → length l ≡ length m → zeroed 0 l ≡ 
 zeros-alike l m e = zeroed-all l ∙ ap (λ (n : ℕ). replicate n 0) e ∙ sym (zeroed-all m)
 
 -- nothing is in force
-pub whole-ready : (P : Reading) (table : List ℕ) → Right P → size (treeOf P) ≤ lent table → size (treeOf P) ≤ limit → Ready P table 0 0 0
+pub whole-ready : (P : Reading) (table : List ℕ) → Right P → size (treeRead P) ≤ lent table → size (treeRead P) ≤ limit → Ready P table 0 0 0
 whole-ready P table good room small = record { good = good; room = omega arith; small = omega arith; below = below-none table 0 0 }
 
 -- what is behind the rows is zeroed, or all was before they were laid
 pub whole-did : (P : Reading) (table : List ℕ) → Ready P table 0 0 0 → (table₁ : List ℕ) (at₁ row₁ : ℕ) → Did P table 0 0 0 table₁ at₁ row₁
-    → (table₂ : List ℕ) → table₂ ≡ zeroed (wordsPerRow * row₁) table₁ → table₂ ≡ sets (zeroed 0 table) 0 (layout (treeOf P) 0 [])
+    → (table₂ : List ℕ) → table₂ ≡ zeroed (wordsPerRow * row₁) table₁ → table₂ ≡ sets (zeroed 0 table) 0 (layout (treeRead P) 0 [])
 unfolding chain
 whole-did P table r table₁ at₁ row₁ d table₂ z =
-    let ws : List ℕ = layout (treeOf P) 0 [] in
-    let e : wordsPerRow * row₁ ≡ length ws = omega (arith, d .past, length-layout (treeOf P) 0 []) in
+    let ws : List ℕ = layout (treeRead P) 0 [] in
+    let e : wordsPerRow * row₁ ≡ length ws = omega (arith, d .past, length-layout (treeRead P) 0 []) in
     let at : wordsPerRow * 0 ≡ 0 = refl in
-    z ∙ cc (e, d .words, at) ∙ front-zeros table ws (omega (arith, r .room, length-layout (treeOf P) 0 []))
+    z ∙ cc (e, d .words, at) ∙ front-zeros table ws (omega (arith, r .room, length-layout (treeRead P) 0 []))

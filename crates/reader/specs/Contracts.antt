@@ -13,9 +13,9 @@ use Rattle.format.specs.declared.head.Children.{Children}
 use Rattle.format.specs.declared.answer.Answer.{Answer}
 use Rattle.format.specs.declared.answer.Answer.the-variants.{Refused, Full}
 use Rattle.format.specs.Tree.{Tree, leaf, Trees, none, size, sizes}
-use Rattle.format.specs.Value.{Reading, right, wrong, Run, ran, broke, inForce}
+use Rattle.format.specs.Value.{Reading, right, wrong, Readings, ran, broke, inForce}
 use Rattle.format.specs.Layout.{isEntry, layout, layouts}
-use Rattle.registry.specs.Registry.{walk, chain, Below, firstIn, Based}
+use Rattle.registry.specs.Contracts.{walk, chain, Below, firstIn, Based}
 
 -- ---- a right reading: its tree, and the place behind it
 
@@ -23,30 +23,30 @@ unfoldable pub Right : Reading → Type 0
 Right (right t next) = Unit {0}
 Right (wrong e place) = ⊥
 
-unfoldable pub treeOf : Reading → Tree
-treeOf (right t next) = t
-treeOf (wrong e place) = leaf (own 0 0 0 0 0)
+unfoldable pub treeRead : Reading → Tree
+treeRead (right t next) = t
+treeRead (wrong e place) = leaf (own 0 0 0 0 0)
 
 unfoldable pub nextOf : Reading → ℕ
 nextOf (right t next) = next
 nextOf (wrong e place) = 0
 
-unfoldable pub Ran : Run → Type 0
+unfoldable pub Ran : Readings → Type 0
 Ran (ran ts next) = Unit {0}
 Ran (broke e place) = ⊥
 
-unfoldable pub treesOf : Run → Trees
-treesOf (ran ts next) = ts
-treesOf (broke e place) = none
+unfoldable pub treesRead : Readings → Trees
+treesRead (ran ts next) = ts
+treesRead (broke e place) = none
 
-unfoldable pub nextsOf : Run → ℕ
+unfoldable pub nextsOf : Readings → ℕ
 nextsOf (ran ts next) = next
 nextsOf (broke e place) = 0
 
 -- ---- the place and the row behind what was filled, both within the limit, in one number
 
-abbrev pub behind : ℕ → ℕ → ℕ
-behind next row = next + 16777216 * row
+abbrev pub placeAndRow : ℕ → ℕ → ℕ
+placeAndRow next row = next + 16777216 * row
 
 abbrev pub placeIn : ℕ → ℕ
 placeIn f = f % 16777216
@@ -59,15 +59,15 @@ rowIn f = f / 16777216
 -- P is right, its rows from `row` on have room, and the k entries in force stand before them
 pub record Ready (P : Reading) (table : List ℕ) (row first k : ℕ) : Type 0 where
   pub good : Right P
-  pub room : row + size (treeOf P) ≤ lent table
-  pub small : row + size (treeOf P) ≤ limit
+  pub room : row + size (treeRead P) ≤ lent table
+  pub small : row + size (treeRead P) ≤ limit
   pub below : Below table first k row
 
 -- its rows stand in the table; at' and row' are the place and the row behind it
 pub record Did (P : Reading) (table : List ℕ) (row first k : ℕ) (table' : List ℕ) (at' row' : ℕ) : Type 0 where
-  pub words : table' ≡ sets table (wordsPerRow * row) (layout (treeOf P) row (chain table first k))
+  pub words : table' ≡ sets table (wordsPerRow * row) (layout (treeRead P) row (chain table first k))
   pub place : at' ≡ nextOf P
-  pub past : row' ≡ row + size (treeOf P)
+  pub past : row' ≡ row + size (treeRead P)
 
 -- the k entries in force stand before `row`, and no more rows than bytes are behind it
 pub record Open (table : List ℕ) (row base k at : ℕ) : Type 0 where
@@ -85,17 +85,17 @@ pub record Tried (P : Reading) (table : List ℕ) (row first k : ℕ) (table' : 
 -- ---- positions in a row, the first of them number i of what holds them, which has k entries in force around it
 
 -- where they are entries, the last one in force ends at `row`
-pub record ReadyAll (Q : Run) (c : Children) (table : List ℕ) (row first k i : ℕ) : Type 0 where
+pub record ReadyAll (Q : Readings) (c : Children) (table : List ℕ) (row first k i : ℕ) : Type 0 where
   pub good : Ran Q
-  pub room : row + sizes (treesOf Q) ≤ lent table
-  pub small : row + sizes (treesOf Q) ≤ limit
+  pub room : row + sizes (treesRead Q) ≤ lent table
+  pub small : row + sizes (treesRead Q) ≤ limit
   pub below : Below table first (inForce c k i) row
   pub linked : (isEntry c ≡ true → walk table first (inForce c k i) ≡ row)
 
-pub record DidAll (Q : Run) (c : Children) (table : List ℕ) (row first k i : ℕ) (table' : List ℕ) (at' row' : ℕ) : Type 0 where
-  pub words : table' ≡ sets table (wordsPerRow * row) (layouts (treesOf Q) (isEntry c) row (chain table first (inForce c k i)))
+pub record DidAll (Q : Readings) (c : Children) (table : List ℕ) (row first k i : ℕ) (table' : List ℕ) (at' row' : ℕ) : Type 0 where
+  pub words : table' ≡ sets table (wordsPerRow * row) (layouts (treesRead Q) (isEntry c) row (chain table first (inForce c k i)))
   pub place : at' ≡ nextsOf Q
-  pub past : row' ≡ row + sizes (treesOf Q)
+  pub past : row' ≡ row + sizes (treesRead Q)
 
 pub record OpenAll (c : Children) (table : List ℕ) (row base k i at : ℕ) : Type 0 where
   pub below : Below table (firstIn base) (inForce c k i) row
@@ -106,7 +106,7 @@ pub record OpenAll (c : Children) (table : List ℕ) (row base k i at : ℕ) : T
   pub room : row ≤ lent table
   pub some : 0 < at
 
-pub record TriedAll (Q : Run) (c : Children) (table : List ℕ) (row first k i : ℕ) (table' : List ℕ) (f : ℕ) : Type 0 where
+pub record TriedAll (Q : Readings) (c : Children) (table : List ℕ) (row first k i : ℕ) (table' : List ℕ) (f : ℕ) : Type 0 where
   pub same : length table' ≡ length table
   pub failed : f ≡ 0 → ReadyAll Q c table row first k i → ⊥
   pub ready : (f ≡ 0 → ⊥) → ReadyAll Q c table row first k i
@@ -116,18 +116,18 @@ pub record TriedAll (Q : Run) (c : Children) (table : List ℕ) (row first k i :
 
 pub record Laid (table : List ℕ) (row : ℕ) (o : Own) (next : ℕ) (table' : List ℕ) (f : ℕ) : Type 0 where
   pub put : table' ≡ sets table (wordsPerRow * row) (wordsOf (leafRow o row))
-  pub past : f ≡ behind next (row + 1)
+  pub past : f ≡ placeAndRow next (row + 1)
 
 -- ---- a document
 
 -- r is 0 where P is not right or needs more rows than lent; else it is how many, and zeros stand behind them
 pub record Whole (P : Reading) (table table' : List ℕ) (r : ℕ) : Type 0 where
   pub same : length table' ≡ length table
-  pub failed : r ≡ 0 → Right P → lent table < size (treeOf P)
+  pub failed : r ≡ 0 → Right P → lent table < size (treeRead P)
   pub good : (r ≡ 0 → ⊥) → Right P
-  pub rows : (r ≡ 0 → ⊥) → r ≡ size (treeOf P)
-  pub room : (r ≡ 0 → ⊥) → size (treeOf P) ≤ lent table
-  pub words : (r ≡ 0 → ⊥) → table' ≡ sets (zeroed 0 table) 0 (layout (treeOf P) 0 [])
+  pub rows : (r ≡ 0 → ⊥) → r ≡ size (treeRead P)
+  pub room : (r ≡ 0 → ⊥) → size (treeRead P) ≤ lent table
+  pub words : (r ≡ 0 → ⊥) → table' ≡ sets (zeroed 0 table) 0 (layout (treeRead P) 0 [])
 
 -- what is said of one that was not read
 abbrev pub notRead : Reading → Answer

@@ -5,8 +5,8 @@ ghost use lib.ListN.{length};
 ghost use Rattle.rows.specs.Table.{lent, limit};
 ghost use Rattle.rows.specs.Kinds.{holderOwn};
 ghost use Rattle.format.specs.declared.head.Children.the-variants.{Entries};
-ghost use Rattle.format.specs.Value.{kindOf, childCount, childrenOf, inForce, child, run, held, declaring, whole, inForeign, framed, value};
-ghost use Rattle.registry.specs.Registry.{firstIn};
+ghost use Rattle.format.specs.Value.{kindOf, childCount, childrenOf, inForce, child, readings, holding, declaring, whole, inForeign, framed, value};
+ghost use Rattle.registry.specs.Contracts.{firstIn};
 ghost use Rattle.reader.specs.Contracts.{Right, Open, Tried, OpenAll, TriedAll};
 use crate::filled::filled;
 use crate::filled::place_in;
@@ -111,7 +111,7 @@ fn fill_hold(
 ) -> usize
     requires { ⌜ Open (now table) row base around at ⌝ }
     requires { ⌜ (row < at) × (row < lent (now table)) × (at ≤ stop) × (stop ≤ length (now s)) × (length (now s) ≤ limit) × (count ≤ limit) ⌝ }
-    ensures { λ r. ⌜ Tried (held (holderOwn (kindOf holder) count) (run (value levels (now (s .entry))) (childrenOf holder) (now (s .entry)) around 0 (childCount holder count) at stop)) (now (table .entry)) row (firstIn base) around (now (table .exit)) r ⌝ }
+    ensures { λ r. ⌜ Tried (holding (holderOwn (kindOf holder) count) (readings (value levels (now (s .entry))) (childrenOf holder) (now (s .entry)) around 0 (childCount holder count) at stop)) (now (table .entry)) row (firstIn base) around (now (table .exit)) r ⌝ }
 {
     let n = holder.children(count);
     let c = holder.reading();
@@ -138,7 +138,7 @@ fn fill_declared(
 ) -> usize
     requires { ⌜ Open (now table) row base around at ⌝ }
     requires { ⌜ (row < at) × (row < lent (now table)) × (at ≤ stop) × (stop ≤ length (now s)) × (length (now s) ≤ limit) × (count ≤ limit) ⌝ }
-    ensures { λ r. ⌜ Tried (declaring count (run (value levels (now (s .entry))) Entries (now (s .entry)) 0 0 count at stop) (value levels (now (s .entry))) stop) (now (table .entry)) row (firstIn base) around (now (table .exit)) r ⌝ }
+    ensures { λ r. ⌜ Tried (declaring count (readings (value levels (now (s .entry))) Entries (now (s .entry)) 0 0 count at stop) (value levels (now (s .entry))) stop) (now (table .entry)) row (firstIn base) around (now (table .exit)) r ⌝ }
 {
     let under = row + 1;
     let es = fill_children(
@@ -293,7 +293,7 @@ fn fill_children(
 ) -> usize
     requires { ⌜ OpenAll children (now table) row base around 0 at ⌝ }
     requires { ⌜ (at ≤ stop) × (stop ≤ length (now s)) × (length (now s) ≤ limit) ⌝ }
-    ensures { λ r. ⌜ TriedAll (run (value levels (now (s .entry))) children (now (s .entry)) around 0 n at stop) children (now (table .entry)) row (firstIn base) around 0 (now (table .exit)) r ⌝ }
+    ensures { λ r. ⌜ TriedAll (readings (value levels (now (s .entry))) children (now (s .entry)) around 0 n at stop) children (now (table .entry)) row (firstIn base) around 0 (now (table .exit)) r ⌝ }
 {
     let mut i = 0;
     let mut place = at;

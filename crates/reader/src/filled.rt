@@ -3,12 +3,12 @@
 ghost use mathlib.Core.Path.{_≡_};
 ghost use Prim.Native.Nat.{_≤_};
 ghost use Rattle.rows.specs.Table.{limit};
-ghost use Rattle.reader.specs.Contracts.{behind, placeIn, rowIn};
+ghost use Rattle.reader.specs.Contracts.{placeAndRow, placeIn, rowIn};
 
 // That number.
 pub fn filled(next: usize, row: usize) -> usize
     requires { ⌜ (next ≤ limit) × (row ≤ limit) ⌝ }
-    ensures { λ r. ⌜ r ≡ behind next row ⌝ }
+    ensures { λ r. ⌜ r ≡ placeAndRow next row ⌝ }
 {
     next + 16777216 * row
 }

@@ -5,8 +5,8 @@ ghost use Rattle.rows.specs.Table.{lent, limit};
 ghost use Rattle.rows.specs.Kinds.{referenceOwn, damagedOwn};
 ghost use Rattle.format.specs.Head.{keyAt};
 ghost use Rattle.format.specs.Value.{leafOwn, keyed};
-ghost use Rattle.registry.specs.Registry.{walk, Below, firstIn, Based};
-ghost use Rattle.leaves.specs.Contracts.{Sane};
+ghost use Rattle.registry.specs.Contracts.{walk, Below, firstIn, Based};
+ghost use Rattle.leaves.specs.Contracts.{ContentInside};
 ghost use Rattle.reader.specs.Contracts.{Open, Tried, Laid};
 use crate::filled::filled;
 use format::Content;
@@ -16,7 +16,7 @@ use rows::Row;
 
 // A leaf whose bytes end at `next`.
 pub fn fill_leaf(table: &mut [u32], s: &[u8], row: usize, content: Content, next: usize) -> usize
-    requires { ⌜ (row < lent (now table)) × (row < limit) × (next ≤ limit) × Sane (now s) content ⌝ }
+    requires { ⌜ (row < lent (now table)) × (row < limit) × (next ≤ limit) × ContentInside (now s) content ⌝ }
     ensures { λ r. ⌜ Laid (now (table .entry)) row (leafOwn (now (s .entry)) content) next (now (table .exit)) r ⌝ }
 {
     rows::lay(table, row, leaf_row(s, row, content));

@@ -13,7 +13,7 @@ use lib.Seq.{sets, getD-at, take-all}
 use Rattle.rows.specs.declared.row.Row.{Row}
 use Rattle.rows.specs.Table.{wordsPerRow, rowAt, lent}
 use Rattle.rows.proofs.Rows.{row-sets-behind}
-use Rattle.registry.specs.Registry.{walk, chain, Below, firstIn, Based, baseOf}
+use Rattle.registry.specs.Contracts.{walk, chain, Below, firstIn, Based, baseOf}
 
 -- ---- a step of a walk
 

@@ -1,1 +1,1 @@
-pub mod Registry
+pub mod Contracts

@@ -2,7 +2,7 @@
 ghost use mathlib.Core.Path.{_≡_};
 ghost use Prim.Native.Nat.{_+_, _≤_, _<_};
 ghost use Rattle.rows.specs.Table.{lent, limit};
-ghost use Rattle.registry.specs.Registry.{walk, Below, firstIn, Based, baseOf};
+ghost use Rattle.registry.specs.Contracts.{walk, Below, firstIn, Based, baseOf};
 
 // The row of entry n, n ends on from the first entry's; every row on the way stands before row.
 pub fn entry_row(table: &[u32], first: usize, n: usize, row: usize) -> usize

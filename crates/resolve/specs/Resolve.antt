@@ -6,8 +6,8 @@ use lib.Dec.{ltb, leb, eqb}
 use Rattle.rows.specs.declared.row.Row.{Row}
 use Rattle.rows.specs.Table.{rowAt, lent}
 use Rattle.rows.specs.Kinds.{kindReference, kindDeclaration}
-use Rattle.resolve.specs.declared.moved.Move.{Move}
-use Rattle.resolve.specs.declared.moved.Move.the-variants as go
+use Rattle.resolve.specs.declared.one_move.Move.{Move}
+use Rattle.resolve.specs.declared.one_move.Move.the-variants as go
 use Rattle.resolve.specs.declared.resolved.Resolved.{Resolved}
 use Rattle.resolve.specs.declared.resolved.Resolved.the-variants.{At, BadTable}
 

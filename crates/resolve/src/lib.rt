@@ -1,13 +1,13 @@
 // Resolving over a lent table, checked or not.
-mod moved;
 mod moves;
 mod number;
+mod one_move;
 mod resolved;
 
 pub use resolved::Resolved;
 ghost use mathlib.Core.Path.{_≡_};
 ghost use Rattle.resolve.specs.Resolve.{resolve};
-use moved::Move;
+use one_move::Move;
 
 // Along references and from declarations to their values, to a row that is neither.
 pub fn resolve(table: &[u32], n: usize, row: usize) -> Resolved

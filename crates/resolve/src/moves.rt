@@ -3,7 +3,7 @@ ghost use mathlib.Core.Path.{_≡_};
 ghost use Prim.Native.Nat.{_+_, _≤_, _<_};
 ghost use Rattle.rows.specs.Table.{lent};
 ghost use Rattle.resolve.specs.Resolve.{valueRow, moveAt};
-use crate::moved::Move;
+use crate::one_move::Move;
 use rows::Row;
 
 // From a declaration to its value, past `entries` entries, the first of them at `row`.

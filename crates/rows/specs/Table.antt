@@ -30,9 +30,9 @@ ownOf w = record { kind = w .kind; w0 = w .w0; w1 = w .w1; w2 = w .w2; w3 = w .w
 abbrev pub withPlace : Own → ℕ → Own
 withPlace o place = record { kind = o .kind; w0 = place; w1 = o .w1; w2 = o .w2; w3 = o .w3 }
 
--- with another w1: "w1 row of that entry"
-abbrev pub withEntry : Own → ℕ → Own
-withEntry o entry = record { kind = o .kind; w0 = o .w0; w1 = entry; w2 = o .w2; w3 = o .w3 }
+-- "14 reference: w0 number, w1 row of that entry": the same with another w1; in the tree it is 0
+abbrev pub aimed : Own → ℕ → Own
+aimed o entry = record { kind = o .kind; w0 = o .w0; w1 = entry; w2 = o .w2; w3 = o .w3 }
 
 -- the numbers of a row, in that order
 unfoldable pub wordsOf : Row → List ℕ

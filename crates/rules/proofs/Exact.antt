@@ -23,7 +23,7 @@ use Rattle.format.specs.Answer.{answerFor, answer, tableAfter}
 use Rattle.format.proofs.Layouts.{length-layout}
 use Rattle.format.proofs.Values.{document-some, document-rows}
 use Rattle.rules.specs.Grow.{Growth, grew, bad, grow, endsWith, rulesHold}
-use Rattle.rules.specs.Fine.{Fine, Stands}
+use Rattle.rules.specs.Obeys.{Obeys, Stands}
 use Rattle.lists.proofs.Tests.{and-first, and-second}
 use Rattle.rules.proofs.Growth.{Grew, Sound, grow-sound}
 use Rattle.rules.proofs.Regrow.{regrow}
@@ -73,8 +73,8 @@ module _ (depth : ℕ) (table : List ℕ) (n : ℕ) (s : List ℕ) where
     grown : Found n (grow table n s (suc depth) [] 0)
     grown = found n (grow table n s (suc depth) [] 0) (and-second (leb (length s) limit) E d)
 
-    stood : Grew (Fine s (suc depth) 0) table n [] 0 (grown .tree) n
-    stood = subst (λ (g : Growth). Sound (Fine s (suc depth) 0) table n [] 0 g) (grown .is) (grow-sound table n s room (suc depth) [] 0)
+    stood : Grew (Obeys s (suc depth) 0) table n [] 0 (grown .tree) n
+    stood = subst (λ (g : Growth). Sound (Obeys s (suc depth) 0) table n [] 0 g) (grown .is) (grow-sound table n s room (suc depth) [] 0)
 
     -- a yes means that the first n rows are those of a right tree
     pub yes-stands : (t : Tree) × Stands depth table n s t
@@ -86,7 +86,7 @@ module _ (depth : ℕ) (table : List ℕ) (n : ℕ) (s : List ℕ) where
           record {
             some = leb-true 1 n (and-first (leb 1 n) B all);
             few = leb-true n limit (and-first (leb n limit) C b);
-            held = room;
+            rows-lent = room;
             short = leb-true (length s) limit (and-first (leb (length s) limit) E d);
             rows = z;
             words = ap (take (wordsPerRow * n)) (stood .words) ∙ take-at (layout t 0 []) (drop (wordsPerRow * n) table) (wordsPerRow * n) l;
@@ -110,7 +110,7 @@ module _ (depth : ℕ) (table : List ℕ) (n : ℕ) (s : List ℕ) where
     pub stands-yes : rulesHold depth table n s ≡ true
     unfolding rulesHold
     stands-yes =
-        rw (le-leb 1 n (st .some), le-leb n limit (st .few), le-leb n (lent table) (st .held), le-leb (length s) limit (st .short), stands-grows, eq-eqb n n refl)
+        rw (le-leb 1 n (st .some), le-leb n limit (st .few), le-leb n (lent table) (st .rows-lent), le-leb (length s) limit (st .short), stands-grows, eq-eqb n n refl)
 
   -- the rows are those of one tree only
   pub one-tree : (t u : Tree) → Stands depth table n s t → Stands depth table n s u → t ≡ u
@@ -163,7 +163,7 @@ module _ (depth : ℕ) (s table : List ℕ) (n : ℕ) (said : answer depth s tab
       record {
         some = omega (arith, document-some depth s (r .tree) (r .next) (r .is), r .rows);
         few = omega (arith, document-rows depth s (r .tree) (r .next) (r .is), r .rows, r .short);
-        held = omega (arith, k, r .fits, r .rows);
+        rows-lent = omega (arith, k, r .fits, r .rows);
         short = r .short;
         rows = r .rows;
         words = ap (take (wordsPerRow * n)) (after ∙ sets-front Z L m) ∙ take-at L (drop (length L) Z) (wordsPerRow * n) l;

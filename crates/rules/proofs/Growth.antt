@@ -10,24 +10,24 @@ use lib.Dec.{ltb, eqb}
 use borrow.Author.Tests.{ltb-true, eqb-true}
 use Rattle.wide.proofs.Families.{cond-case}
 use Rattle.rows.specs.declared.row.Row.{Row}
-use Rattle.rows.specs.Table.{wordsPerRow, Own, rowOf, ownOf, wordsOf, rowAt, lent}
+use Rattle.rows.specs.Table.{wordsPerRow, Own, rowOf, ownOf, wordsOf, rowAt, lent, aimed}
 use Rattle.rows.proofs.Rows.{drop-row}
 use Rattle.format.specs.declared.head.Holder.{Holder}
 use Rattle.format.specs.declared.head.Children.{Children}
 use Rattle.format.specs.declared.head.Children.the-variants.{Entries}
 use Rattle.format.specs.Tree.{Tree, leaf, refer, hold, declare, foreign, damaged, Trees, none, more, many, size, sizes}
 use Rattle.format.specs.Value.{Reading, right, wrong, childCount, childrenOf, inForeign, value, whole, isKey}
-use Rattle.format.specs.Layout.{isEntry, layout, layouts, grown, entries, inBody, aimed}
+use Rattle.format.specs.Layout.{isEntry, layout, layouts, grown, entries, inBody}
 use Rattle.format.proofs.Layouts.{no-entry, length-body}
 use Rattle.rules.specs.declared.shape.Shape.{Shape}
 use Rattle.rules.specs.declared.shape.Shape.the-variants.{Bad, Leaf, Refer, Hold, Declare, Whole, Damaged}
 use Rattle.rules.specs.Shape.{shapeOf, keyFits}
-use Rattle.rules.specs.Grow.{Growth, grew, bad, Growths, grewAll, badAll, Grower, endsAt, before, andThen, pointing, overChildren, overValue, overEntries, overBody, judged, keyRow, growKey, item, grows, byShape, rowGrows, grow}
-use Rattle.rules.specs.Fine.{KeyFine, IfKey, after, Fine, Fines}
+use Rattle.rules.specs.Grow.{Growth, grew, bad, Growths, grewAll, badAll, Grower, endsAt, atFront, andThen, pointing, overChildren, overValue, overEntries, overBody, judged, keyRow, growKey, item, grows, byShape, rowGrows, grow}
+use Rattle.rules.specs.Obeys.{KeyObeys, IfKey, after, Obeys, ObeyAll}
 use Rattle.rules.proofs.Levels.{down}
 use Rattle.rules.proofs.Says.{aimed-shape}
 use Rattle.lists.proofs.Tests.{and-first, and-second}
-use Rattle.format.specs.Refusal.{numberOf as refusalNumber}
+use Rattle.format.specs.Refusal.{refusalNumber}
 
 -- a tree of the kind F stands from `row` up to e
 pub record Grew (F : Tree → Type 0) (table : List ℕ) (n : ℕ) (registry : List ℕ) (row : ℕ) (t : Tree) (e : ℕ) : Type 0 where
@@ -44,7 +44,7 @@ pub record GrewAll (s : List ℕ) (d : ℕ) (c : Children) (table : List ℕ) (n
   pub within : e ≤ n
   pub words : drop (wordsPerRow * row) table ≡ layouts ts (isEntry c) row registry ++ drop (wordsPerRow * e) table
   pub number : many ts ≡ count
-  pub fines : Fines s d c (length registry) i ts
+  pub fines : ObeyAll s d c (length registry) i ts
 
 abbrev pub Sound : (Tree → Type 0) → List ℕ → ℕ → List ℕ → ℕ → Growth → Type 0
 Sound F table n registry row (grew t e) = Grew F table n registry row t e
@@ -116,21 +116,21 @@ module _ (table : List ℕ) (n : ℕ) (s : List ℕ) (room : n ≤ lent table) w
   unfolding layout size
   leaf-inner F registry row h f = one-inner F registry row (leaf (ownOf (rowAt table row))) h refl (own-words (rowAt table row) (row + 1)) f
 
-  pub key-sound : (registry : List ℕ) (row : ℕ) → Sound (KeyFine s) table n registry row (growKey table n s row)
+  pub key-sound : (registry : List ℕ) (row : ℕ) → Sound (KeyObeys s) table n registry row (growKey table n s row)
   unfolding growKey
   key-sound registry row =
       let w : Row = rowAt table row in
       let T : Bool = keyFits s (ownOf w) in
-      cond-case (Sound (KeyFine s) table n registry row) (ltb row n) (keyRow s row w) bad
-      (λ h. ends-sound (KeyFine s) registry row (cond T (grew (leaf (ownOf w)) (row + 1)) bad)
-      (cond-case (Inner (KeyFine s) table n registry row) T (grew (leaf (ownOf w)) (row + 1)) bad
-      (λ q. leaf-inner (KeyFine s) registry row (ltb-true row n h) (record { own = ownOf w; is = refl; fits = q }))
+      cond-case (Sound (KeyObeys s) table n registry row) (ltb row n) (keyRow s row w) bad
+      (λ h. ends-sound (KeyObeys s) registry row (cond T (grew (leaf (ownOf w)) (row + 1)) bad)
+      (cond-case (Inner (KeyObeys s) table n registry row) T (grew (leaf (ownOf w)) (row + 1)) bad
+      (λ q. leaf-inner (KeyObeys s) registry row (ltb-true row n h) (record { own = ownOf w; is = refl; fits = q }))
       (λ _. tt)))
       (λ _. tt)
 
-  module _ (d : ℕ) (G : Grower) (good : (registry : List ℕ) (row : ℕ) → Sound (Fine s d (length registry)) table n registry row (G registry row)) where
+  module _ (d : ℕ) (G : Grower) (good : (registry : List ℕ) (row : ℕ) → Sound (Obeys s d (length registry)) table n registry row (G registry row)) where
     abbrev pub ItemFine : Bool → List ℕ → Tree → Type 0
-    ItemFine key registry t = IfKey key (KeyFine s t) (Fine s d (length registry) t)
+    ItemFine key registry t = IfKey key (KeyObeys s t) (Obeys s d (length registry) t)
 
     pub item-sound : (key : Bool) (registry : List ℕ) (row : ℕ) → Sound (ItemFine key registry) table n registry row (item table n s key G registry row)
     unfolding item
@@ -138,8 +138,8 @@ module _ (table : List ℕ) (n : ℕ) (s : List ℕ) (room : n ≤ lent table) w
     item-sound false registry row = good registry row
 
     before-sound : (c : Children) (i count : ℕ) (registry : List ℕ) (row : ℕ) (t : Tree) (m : ℕ) → Grew (ItemFine (isKey c i) registry) table n registry row t m
-        → (q : Growths) → SoundAll s d c table n (grown (isEntry c) registry row) (i + 1) count m q → SoundAll s d c table n registry i (suc count) row (before t q)
-    unfolding size layout many Fine
+        → (q : Growths) → SoundAll s d c table n (grown (isEntry c) registry row) (i + 1) count m q → SoundAll s d c table n registry i (suc count) row (atFront t q)
+    unfolding size layout many Obeys
     before-sound c i count registry row t m a badAll b = tt
     before-sound c i count registry row t m a (grewAll ts e) b =
         let R : List ℕ = grown (isEntry c) registry row in
@@ -150,7 +150,7 @@ module _ (table : List ℕ) (n : ℕ) (s : List ℕ) (room : n ≤ lent table) w
               glue (layout t row registry) (layout t row registry) (layouts ts (isEntry c) m R) (drop (wordsPerRow * e) table) (a .words) refl (b .words)
               ∙ ap (λ (x : ℕ). (layout t row registry ++ layouts ts (isEntry c) x R) ++ drop (wordsPerRow * e) table) (a .past);
           number = ap suc (b .number);
-          fines = (a .fine, subst (λ (k : ℕ). Fines s d c k (i + 1) ts) (length-grown (isEntry c) registry row) (b .fines));
+          fines = (a .fine, subst (λ (k : ℕ). ObeyAll s d c k (i + 1) ts) (length-grown (isEntry c) registry row) (b .fines));
         }
 
     then-sound : (c : Children) (i count : ℕ) (registry : List ℕ) (row : ℕ) (p : Growth) → Sound (ItemFine (isKey c i) registry) table n registry row p
@@ -160,7 +160,7 @@ module _ (table : List ℕ) (n : ℕ) (s : List ℕ) (room : n ≤ lent table) w
     then-sound c i count registry row (grew t m) a rest b = before-sound c i count registry row t m a (rest m) (b m (a .within))
 
     pub all-sound : (c : Children) (i count : ℕ) (registry : List ℕ) (row : ℕ) → row ≤ n → SoundAll s d c table n registry i count row (grows table n s G c registry i count row)
-    unfolding grows size layout many Fine
+    unfolding grows size layout many Obeys
     all-sound c i zero registry row h = record { past = omega arith; within = h; words = refl; number = refl; fines = tt }
     all-sound c i (suc count) registry row h =
         then-sound c i count registry row (item table n s (isKey c i) G registry row) (item-sound (isKey c i) registry row) _
@@ -174,15 +174,15 @@ module _ (table : List ℕ) (n : ℕ) (s : List ℕ) (room : n ≤ lent table) w
       o = ownOf w
 
       abbrev F : Tree → Type 0
-      F = Fine s (suc d) (length registry)
+      F = Obeys s (suc d) (length registry)
 
       leaf-sound : shapeOf s o ≡ Leaf → Inner F table n registry row (grew (leaf o) (row + 1))
-      unfolding Fine
+      unfolding Obeys
       leaf-sound e = leaf-inner F registry row h (omega arith, e)
 
       judged-sound : shapeOf s o ≡ Damaged → (x : Reading) → whole (o .w0 + o .w1) (value d s (inForeign (length registry)) (o .w0) (o .w0 + o .w1)) ≡ x
           → Inner F table n registry row (judged row o x)
-      unfolding Fine layout size
+      unfolding Obeys layout size
       judged-sound e (right t next) q = tt
       judged-sound e (wrong r place) q =
           cond-case (Inner F table n registry row) (eqb (o .w2) (refusalNumber r)) (grew (damaged o) (row + 1)) bad
@@ -191,7 +191,7 @@ module _ (table : List ℕ) (n : ℕ) (s : List ℕ) (room : n ≤ lent table) w
           (λ _. tt)
 
       pointing-sound : shapeOf s o ≡ Refer → Inner F table n registry row (pointing registry row o)
-      unfolding Fine layout size
+      unfolding Obeys layout size
       pointing-sound e =
           let A : Bool = ltb (o .w0) (length registry) in
           let B : Bool = eqb (o .w1) (getD registry (o .w0) 0) in
@@ -208,7 +208,7 @@ module _ (table : List ℕ) (n : ℕ) (s : List ℕ) (room : n ≤ lent table) w
 
       hold-sound : (x : Holder) → shapeOf s o ≡ Hold x → (q : Growths) → SoundAll s d (childrenOf x) table n registry 0 (childCount x (o .w0)) (row + 1) q
           → Inner F table n registry row (overChildren o q)
-      unfolding Fine layout size
+      unfolding Obeys layout size
       hold-sound x y badAll b = tt
       hold-sound x y (grewAll ts e) b = λ l.
           let past′ : e ≡ row + (1 + sizes ts) = omega (arith, b .past) in
@@ -220,12 +220,12 @@ module _ (table : List ℕ) (n : ℕ) (s : List ℕ) (room : n ≤ lent table) w
             words =
                 over (hold o ts) e past′ (layouts ts false (row + 1) registry)
                 (subst (λ (z : Bool). drop (wordsPerRow * (row + 1)) table ≡ layouts ts z (row + 1) registry ++ drop (wordsPerRow * e) table) (no-entry x) (b .words)) l;
-            fine = (omega arith, (x, y, b .number, subst (λ (z : ℕ). Fines s z (childrenOf x) (length registry) 0 ts) (sym (down d)) (b .fines)));
+            fine = (omega arith, (x, y, b .number, subst (λ (z : ℕ). ObeyAll s z (childrenOf x) (length registry) 0 ts) (sym (down d)) (b .fines)));
           }
 
       value-sound : shapeOf s o ≡ Declare → (es : Trees) (m : ℕ) → GrewAll s d Entries table n [] 0 (o .w0) (row + 1) es m → (p : Growth)
-          → Sound (Fine s d (length (entries es (row + 1) []))) table n (entries es (row + 1) []) m p → Inner F table n registry row (overValue o es p)
-      unfolding Fine layout size
+          → Sound (Obeys s d (length (entries es (row + 1) []))) table n (entries es (row + 1) []) m p → Inner F table n registry row (overValue o es p)
+      unfolding Obeys layout size
       value-sound y es m b bad g = tt
       value-sound y es m b (grew t e) g = λ l.
           let A : List ℕ = entries es (row + 1) [] in
@@ -244,8 +244,8 @@ module _ (table : List ℕ) (n : ℕ) (s : List ℕ) (room : n ≤ lent table) w
               omega arith,
               y,
               b .number,
-              subst (λ (x : ℕ). Fines s x Entries 0 0 es) (sym (down d)) (b .fines),
-              subst (λ (x : ℕ). Fine s x (o .w0) t) (sym (down d)) (subst (λ (x : ℕ). Fine s d x t) k (g .fine)),
+              subst (λ (x : ℕ). ObeyAll s x Entries 0 0 es) (sym (down d)) (b .fines),
+              subst (λ (x : ℕ). Obeys s x (o .w0) t) (sym (down d)) (subst (λ (x : ℕ). Obeys s d x t) k (g .fine)),
             );
           }
 
@@ -253,8 +253,8 @@ module _ (table : List ℕ) (n : ℕ) (s : List ℕ) (room : n ≤ lent table) w
       entries-sound y badAll b = tt
       entries-sound y (grewAll es m) b = value-sound y es m b (G (entries es (row + 1) []) m) (good (entries es (row + 1) []) m)
 
-      body-sound : shapeOf s o ≡ Whole → (p : Growth) → Sound (Fine s d (length (inBody registry))) table n (inBody registry) (row + 1) p → Inner F table n registry row (overBody o p)
-      unfolding Fine layout size
+      body-sound : shapeOf s o ≡ Whole → (p : Growth) → Sound (Obeys s d (length (inBody registry))) table n (inBody registry) (row + 1) p → Inner F table n registry row (overBody o p)
+      unfolding Obeys layout size
       body-sound y bad g = tt
       body-sound y (grew t e) g = λ l.
           let past′ : e ≡ row + (1 + size t) = omega (arith, g .past) in
@@ -267,7 +267,7 @@ module _ (table : List ℕ) (n : ℕ) (s : List ℕ) (room : n ≤ lent table) w
             fine = (
               omega arith,
               y,
-              subst (λ (x : ℕ). Fine s x (inForeign (length registry)) t) (sym (down d)) (subst (λ (x : ℕ). Fine s d x t) (length-body registry) (g .fine)),
+              subst (λ (x : ℕ). Obeys s x (inForeign (length registry)) t) (sym (down d)) (subst (λ (x : ℕ). Obeys s d x t) (length-body registry) (g .fine)),
             );
           }
 
@@ -282,13 +282,13 @@ module _ (table : List ℕ) (n : ℕ) (s : List ℕ) (room : n ≤ lent table) w
       shape-sound Whole e = body-sound e (G (inBody registry) (row + 1)) (good (inBody registry) (row + 1))
       shape-sound Damaged e = judged-sound e (whole (o .w0 + o .w1) (value d s (inForeign (length registry)) (o .w0) (o .w0 + o .w1))) refl
 
-  pub grow-sound : (d : ℕ) (registry : List ℕ) (row : ℕ) → Sound (Fine s d (length registry)) table n registry row (grow table n s d registry row)
+  pub grow-sound : (d : ℕ) (registry : List ℕ) (row : ℕ) → Sound (Obeys s d (length registry)) table n registry row (grow table n s d registry row)
   unfolding grow
   grow-sound zero registry row = tt
   grow-sound (suc d) registry row =
       let w : Row = rowAt table row in
       let x : Shape = shapeOf s (ownOf w) in
-      cond-case (Sound (Fine s (suc d) (length registry)) table n registry row) (ltb row n) (rowGrows table n s (grow table n s d) d registry row w) bad
-      (λ h. ends-sound (Fine s (suc d) (length registry)) registry row (byShape table n s (grow table n s d) d registry row (ownOf w) x)
+      cond-case (Sound (Obeys s (suc d) (length registry)) table n registry row) (ltb row n) (rowGrows table n s (grow table n s d) d registry row w) bad
+      (λ h. ends-sound (Obeys s (suc d) (length registry)) registry row (byShape table n s (grow table n s d) d registry row (ownOf w) x)
       (shape-sound d (grow table n s d) (grow-sound d) registry row (ltb-true row n h) x refl))
       (λ _. tt)

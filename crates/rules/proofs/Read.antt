@@ -8,7 +8,7 @@ use mathlib.Core.List.{List}
 use lib.ListN.{length, take, drop}
 use lib.Dec.{ltb, eqb}
 use borrow.Author.Tests.{le-leb, lt-ltb, ltb-true}
-use Rattle.wide.specs.Words.{whole as wordsWhole, valueOf, wideOf}
+use Rattle.wide.specs.Words.{wideEnd as wordsWhole, valueOf, wideOf}
 use Rattle.wide.specs.Body.{bodyValue}
 use Rattle.wide.specs.Family.{behind, hasByte, numberOf, hasNumber}
 use Rattle.wide.specs.Members.{integerSigned, integerUnsigned}
@@ -34,17 +34,17 @@ use Rattle.format.specs.declared.head.Children.{Children}
 use Rattle.format.specs.declared.head.Children.the-variants.{Plain, Keyed, Entries}
 use Rattle.format.specs.Tree.{Tree, Trees, many}
 use Rattle.format.specs.Head.{codepoint, floatSizes, floatSize, headAt, keyAt}
-use Rattle.format.specs.Value.{Reading, right, wrong, Run, ran, broke, integerOwn, integerKind, leafOwn, kindOf, childCount, childrenOf, keyed, inTurn, child, inForce, ahead, follow, run, held, referred, closed, declaring, framed, inForeign, step, value, ended, whole, document, isKey}
+use Rattle.format.specs.Value.{Reading, right, wrong, Readings, ran, broke, integerOwn, integerKind, leafOwn, kindOf, childCount, childrenOf, keyed, inTurn, child, inForce, ahead, follow, readings, holding, referred, closed, declaring, framed, inForeign, step, value, ended, whole, document, isKey}
 use Rattle.format.proofs.Values.{document-value}
 use Rattle.format.specs.Layout.{isEntry}
 use Rattle.format.proofs.Layouts.{around-force}
 use Rattle.format.proofs.Heads.{Payload, floating, written, plain as binary, ContentAt, Spelled, Stood, head-stood, key-spelled}
 use Rattle.rules.specs.declared.shape.Shape.the-variants.{Leaf, Hold, Whole, Damaged}
 use Rattle.rules.specs.Shape.{named, blank, inside, isSmall, oneOf, span, spelt, fits, shapeOf}
-use Rattle.rules.specs.Fine.{KeyFine, IfKey, after, Fine, Fines}
+use Rattle.rules.specs.Obeys.{KeyObeys, IfKey, after, Obeys, ObeyAll}
 use Rattle.rules.proofs.Levels.{down}
 use Rattle.rules.proofs.Says.{refer-shape, declare-shape}
-use Rattle.format.specs.Refusal.{numberOf as refusalNumber}
+use Rattle.format.specs.Refusal.{refusalNumber}
 
 -- ---- leaves
 
@@ -171,11 +171,11 @@ FineAt F (right t next) = F t
 FineAt F (wrong e place) = Unit {0}
 
 -- children, and how many
-abbrev FinesAt : List ℕ → ℕ → Children → ℕ → ℕ → ℕ → Run → Type 0
-FinesAt s d c k i n (ran ts next) = (many ts ≡ n) × Fines s d c k i ts
+abbrev FinesAt : List ℕ → ℕ → Children → ℕ → ℕ → ℕ → Readings → Type 0
+FinesAt s d c k i n (ran ts next) = (many ts ≡ n) × ObeyAll s d c k i ts
 FinesAt s d c k i n (broke e place) = Unit {0}
 
-keyed-fine : (s : List ℕ) (at stop : ℕ) → stop ≤ length s → (x : Spelling) → Spelled s at stop x → FineAt (KeyFine s) (keyed at x)
+keyed-fine : (s : List ℕ) (at stop : ℕ) → stop ≤ length s → (x : Spelling) → Spelled s at stop x → FineAt (KeyObeys s) (keyed at x)
 keyed-fine s at stop l (At place n) w =
     record { own = spanOwn kindKey place n; is = refl; fits = spelt-yes s kindKey place n (omega (arith, w .within)) (w .spelt) }
 keyed-fine s at stop l (No e) w = tt
@@ -185,45 +185,45 @@ force-next Plain k i = refl
 force-next Keyed k i = refl
 force-next Entries k i = refl
 
-module _ (s : List ℕ) (d : ℕ) (good : (k at stop : ℕ) → stop ≤ length s → FineAt (Fine s d k) (value d s k at stop)) where
-  turn-fine : (b : Bool) (k at stop : ℕ) → stop ≤ length s → FineAt (λ t. IfKey b (KeyFine s t) (Fine s d k t)) (inTurn b (value d s) s k at stop)
+module _ (s : List ℕ) (d : ℕ) (good : (k at stop : ℕ) → stop ≤ length s → FineAt (Obeys s d k) (value d s k at stop)) where
+  turn-fine : (b : Bool) (k at stop : ℕ) → stop ≤ length s → FineAt (λ t. IfKey b (KeyObeys s t) (Obeys s d k t)) (inTurn b (value d s) s k at stop)
   turn-fine true k at stop l = keyed-fine s at stop l (keyAt s at stop) (key-spelled s at stop)
   turn-fine false k at stop l = good k at stop l
 
   child-fine : (c : Children) (k i at stop : ℕ) → stop ≤ length s
-      → FineAt (λ t. IfKey (isKey c i) (KeyFine s t) (Fine s d (inForce c k i) t)) (child c (value d s) s k i at stop)
+      → FineAt (λ t. IfKey (isKey c i) (KeyObeys s t) (Obeys s d (inForce c k i) t)) (child c (value d s) s k i at stop)
   unfolding child
   child-fine c k i at stop l = turn-fine (isKey c i) (inForce c k i) at stop l
 
-  ahead-fine : (c : Children) (k i n : ℕ) (t : Tree) → IfKey (isKey c i) (KeyFine s t) (Fine s d (inForce c k i) t) → (q : Run)
+  ahead-fine : (c : Children) (k i n : ℕ) (t : Tree) → IfKey (isKey c i) (KeyObeys s t) (Obeys s d (inForce c k i) t) → (q : Readings)
       → FinesAt s d c (inForce c k (i + 1)) (i + 1) n q → FinesAt s d c (inForce c k i) i (suc n) (ahead t q)
-  unfolding many Fine
-  ahead-fine c k i n t f (ran ts next) g = (ap suc (g .0), (f, subst (λ (x : ℕ). Fines s d c x (i + 1) ts) (sym (force-next c k i)) (g .1)))
+  unfolding many Obeys
+  ahead-fine c k i n t f (ran ts next) g = (ap suc (g .0), (f, subst (λ (x : ℕ). ObeyAll s d c x (i + 1) ts) (sym (force-next c k i)) (g .1)))
   ahead-fine c k i n t f (broke e place) g = tt
 
-  follow-fine : (c : Children) (k i n : ℕ) (x : Reading) → FineAt (λ t. IfKey (isKey c i) (KeyFine s t) (Fine s d (inForce c k i) t)) x → (rest : ℕ → Run)
+  follow-fine : (c : Children) (k i n : ℕ) (x : Reading) → FineAt (λ t. IfKey (isKey c i) (KeyObeys s t) (Obeys s d (inForce c k i) t)) x → (rest : ℕ → Readings)
       → ((m : ℕ) → FinesAt s d c (inForce c k (i + 1)) (i + 1) n (rest m)) → FinesAt s d c (inForce c k i) i (suc n) (follow x rest)
   follow-fine c k i n (right t m) f rest g = ahead-fine c k i n t f (rest m) (g m)
   follow-fine c k i n (wrong e place) f rest g = tt
 
-  run-fine : (c : Children) (k i n at stop : ℕ) → stop ≤ length s → FinesAt s d c (inForce c k i) i n (run (value d s) c s k i n at stop)
-  unfolding run many Fine
+  run-fine : (c : Children) (k i n at stop : ℕ) → stop ≤ length s → FinesAt s d c (inForce c k i) i n (readings (value d s) c s k i n at stop)
+  unfolding readings many Obeys
   run-fine c k i zero at stop l = (refl, tt)
   run-fine c k i (suc n) at stop l =
       follow-fine c k i n (child c (value d s) s k i at stop) (child-fine c k i at stop l) _ (λ m. run-fine c k (i + 1) n m stop l)
 
-  held-fine : (h : Holder) (k n : ℕ) (q : Run) → FinesAt s d (childrenOf h) k 0 (childCount h n) q → FineAt (Fine s (suc d) k) (held (holderOwn (kindOf h) n) q)
-  unfolding Fine
-  held-fine h k n (ran ts next) f = (omega arith, (h, hold-shape s h n, f .0, subst (λ (x : ℕ). Fines s x (childrenOf h) k 0 ts) (sym (down d)) (f .1)))
+  held-fine : (h : Holder) (k n : ℕ) (q : Readings) → FinesAt s d (childrenOf h) k 0 (childCount h n) q → FineAt (Obeys s (suc d) k) (holding (holderOwn (kindOf h) n) q)
+  unfolding Obeys
+  held-fine h k n (ran ts next) f = (omega arith, (h, hold-shape s h n, f .0, subst (λ (x : ℕ). ObeyAll s x (childrenOf h) k 0 ts) (sym (down d)) (f .1)))
   held-fine h k n (broke e place) f = tt
 
-  closed-fine : (k n : ℕ) → 0 < n → (es : Trees) → many es ≡ n → Fines s d Entries 0 0 es → (x : Reading) → FineAt (Fine s d n) x → FineAt (Fine s (suc d) k) (closed n es x)
-  unfolding Fine
+  closed-fine : (k n : ℕ) → 0 < n → (es : Trees) → many es ≡ n → ObeyAll s d Entries 0 0 es → (x : Reading) → FineAt (Obeys s d n) x → FineAt (Obeys s (suc d) k) (closed n es x)
+  unfolding Obeys
   closed-fine k n some es num f (right t next) g =
-      (omega arith, declare-shape s n some, num, subst (λ (x : ℕ). Fines s x Entries 0 0 es) (sym (down d)) f, subst (λ (x : ℕ). Fine s x n t) (sym (down d)) g)
+      (omega arith, declare-shape s n some, num, subst (λ (x : ℕ). ObeyAll s x Entries 0 0 es) (sym (down d)) f, subst (λ (x : ℕ). Obeys s x n t) (sym (down d)) g)
   closed-fine k n some es num f (wrong e place) g = tt
 
-  declaring-fine : (k n : ℕ) → 0 < n → (q : Run) → FinesAt s d Entries 0 0 n q → (stop : ℕ) → stop ≤ length s → FineAt (Fine s (suc d) k) (declaring n q (value d s) stop)
+  declaring-fine : (k n : ℕ) → 0 < n → (q : Readings) → FinesAt s d Entries 0 0 n q → (stop : ℕ) → stop ≤ length s → FineAt (Obeys s (suc d) k) (declaring n q (value d s) stop)
   declaring-fine k n some (ran es next) f stop l = closed-fine k n some es (f .0) (f .1) (value d s n next stop) (good n next stop l)
   declaring-fine k n some (broke e place) f stop l = tt
 
@@ -236,38 +236,38 @@ module _ (s : List ℕ) (d : ℕ) (good : (k at stop : ℕ) → stop ≤ length 
   whole-fine F stop (wrong e place) f = tt
 
   -- a body of n bytes, read as x
-  framed-fine : (k place n : ℕ) → place + n ≤ length s → (x : Reading) → whole (place + n) (value d s (inForeign k) place (place + n)) ≡ x → FineAt (Fine s d (inForeign k)) x
-      → FineAt (Fine s (suc d) k) (framed place n x)
-  unfolding Fine
-  framed-fine k place n l (right t next) e f = (omega arith, whole-shape s, subst (λ (x : ℕ). Fine s x (inForeign k) t) (sym (down d)) f)
+  framed-fine : (k place n : ℕ) → place + n ≤ length s → (x : Reading) → whole (place + n) (value d s (inForeign k) place (place + n)) ≡ x → FineAt (Obeys s d (inForeign k)) x
+      → FineAt (Obeys s (suc d) k) (framed place n x)
+  unfolding Obeys
+  framed-fine k place n l (right t next) e f = (omega arith, whole-shape s, subst (λ (x : ℕ). Obeys s x (inForeign k) t) (sym (down d)) f)
   framed-fine k place n l (wrong r p) e f = (omega arith, damaged-shape s place n r l, record { why = r; place = p; reads = rw (down d) e; verdict = refl })
 
-  referred-fine : (k at n next : ℕ) (b : Bool) → ltb n k ≡ b → FineAt (Fine s (suc d) k) (referred b n at next)
-  unfolding Fine
+  referred-fine : (k at n next : ℕ) (b : Bool) → ltb n k ≡ b → FineAt (Obeys s (suc d) k) (referred b n at next)
+  unfolding Obeys
   referred-fine k at n next true e = (omega arith, refer-shape s n 0, refl, ltb-true n k e)
   referred-fine k at n next false e = tt
 
-  step-fine : (k at stop : ℕ) → stop ≤ length s → (h : Head) → Stood s at stop h → FineAt (Fine s (suc d) k) (step (value d s) s k at stop h)
-  unfolding step Fine
+  step-fine : (k at stop : ℕ) → stop ≤ length s → (h : Head) → Stood s at stop h → FineAt (Obeys s (suc d) k) (step (value d s) s k at stop h)
+  unfolding step Obeys
   step-fine k at stop l (stands.Leaf c next) w = (omega arith, content-leaf s at next c (w .content) (omega (arith, w .within)))
   step-fine k at stop l (stands.Hold h n next) w =
-      let Q : Run = run (value d s) (childrenOf h) s k 0 (childCount h n) next stop in
+      let Q : Readings = readings (value d s) (childrenOf h) s k 0 (childCount h n) next stop in
       held-fine h k n Q (subst (λ (x : ℕ). FinesAt s d (childrenOf h) x 0 (childCount h n) Q) (around-force h k 0) (run-fine (childrenOf h) k 0 (childCount h n) next stop l))
   step-fine k at stop l (stands.Refer n next) w = referred-fine k at n next (ltb n k) refl
   step-fine k at stop l (stands.Declare n next) w =
-      declaring-fine k n (omega (arith, w .some)) (run (value d s) Entries s 0 0 n next stop) (run-fine Entries 0 0 n next stop l) stop l
+      declaring-fine k n (omega (arith, w .some)) (readings (value d s) Entries s 0 0 n next stop) (run-fine Entries 0 0 n next stop l) stop l
   step-fine k at stop l (stands.Foreign place n) w =
       let x : Reading = value d s (inForeign k) place (place + n) in
       framed-fine k place n (omega (arith, w .within)) (whole (place + n) x) refl
-      (whole-fine (Fine s d (inForeign k)) (place + n) x (good (inForeign k) place (place + n) (omega (arith, w .within))))
+      (whole-fine (Obeys s d (inForeign k)) (place + n) x (good (inForeign k) place (place + n) (omega (arith, w .within))))
   step-fine k at stop l (stands.Refuse e place) w = tt
 
-pub value-fine : (s : List ℕ) (d k at stop : ℕ) → stop ≤ length s → FineAt (Fine s d k) (value d s k at stop)
+pub value-fine : (s : List ℕ) (d k at stop : ℕ) → stop ≤ length s → FineAt (Obeys s d k) (value d s k at stop)
 unfolding value
 value-fine s zero k at stop l = tt
 value-fine s (suc d) k at stop l = step-fine s d (value-fine s d) k at stop l (headAt s at stop) (head-stood s at stop)
 
 -- a document's tree is right
-pub document-fine : (depth : ℕ) (s : List ℕ) (t : Tree) (next : ℕ) → document depth s ≡ right t next → Fine s (suc depth) 0 t
+pub document-fine : (depth : ℕ) (s : List ℕ) (t : Tree) (next : ℕ) → document depth s ≡ right t next → Obeys s (suc depth) 0 t
 document-fine depth s t next e =
-    subst (FineAt (Fine s (suc depth) 0)) (document-value depth s t next e) (value-fine s (suc depth) 0 0 (length s) (omega arith))
+    subst (FineAt (Obeys s (suc depth) 0)) (document-value depth s t next e) (value-fine s (suc depth) 0 0 (length s) (omega arith))

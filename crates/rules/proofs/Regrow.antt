@@ -9,23 +9,23 @@ use lib.ListN.{length, getD, drop}
 use lib.Seq.{drop-drop, drop-append-seam}
 use borrow.Author.Tests.{lt-ltb, eq-eqb}
 use Rattle.rows.specs.declared.row.Row.{Row}
-use Rattle.rows.specs.Table.{wordsPerRow, wordsOf, rowAt}
+use Rattle.rows.specs.Table.{wordsPerRow, wordsOf, rowAt, aimed}
 use Rattle.rows.proofs.Rows.{length-words}
 use Rattle.format.specs.declared.head.Holder.{Holder}
 use Rattle.format.specs.declared.head.Children.{Children}
 use Rattle.format.specs.declared.head.Children.the-variants.{Entries}
 use Rattle.format.specs.Tree.{Tree, leaf, refer, hold, declare, foreign, damaged, Trees, none, more, many, size, sizes}
 use Rattle.format.specs.Value.{Reading, childrenOf, isKey}
-use Rattle.format.specs.Layout.{isEntry, layout, layouts, grown, entries, inBody, aimed}
+use Rattle.format.specs.Layout.{isEntry, layout, layouts, grown, entries, inBody}
 use Rattle.format.proofs.Layouts.{no-entry, length-layout, length-layouts, length-body, size-pos, ownAt, topRow, below, layout-top, top-at}
 use Rattle.rules.specs.declared.shape.Shape.{Shape}
 use Rattle.rules.specs.declared.shape.Shape.the-variants.{Leaf, Refer, Hold, Declare, Whole, Damaged}
 use Rattle.rules.specs.Shape.{shapeOf}
-use Rattle.rules.specs.Grow.{Growth, grew, bad, Growths, grewAll, Grower, endsAt, before, andThen, pointing, overChildren, overValue, overEntries, overBody, judged, growKey, item, grows, byShape, grow}
-use Rattle.rules.specs.Fine.{KeyFine, IfKey, Fine, Fines}
+use Rattle.rules.specs.Grow.{Growth, grew, bad, Growths, grewAll, Grower, endsAt, atFront, andThen, pointing, overChildren, overValue, overEntries, overBody, judged, growKey, item, grows, byShape, grow}
+use Rattle.rules.specs.Obeys.{KeyObeys, IfKey, Obeys, ObeyAll}
 use Rattle.rules.proofs.Growth.{length-grown, length-entries}
 use Rattle.rules.proofs.Says.{aimed-shape}
-use Rattle.format.specs.Refusal.{numberOf as refusalNumber}
+use Rattle.format.specs.Refusal.{refusalNumber}
 
 -- ---- what stands behind some rows
 
@@ -58,23 +58,23 @@ module _ (table : List ℕ) (n : ℕ) (s : List ℕ) where
       let w : rowAt table row ≡ topRow t row registry = top-at table t row registry rest q in
       rw (lt-ltb row n i, w, e, z)
 
-  key-at : (t : Tree) (row : ℕ) (registry rest : List ℕ) → KeyFine s t → drop (wordsPerRow * row) table ≡ layout t row registry ++ rest → row + size t ≤ n
+  key-at : (t : Tree) (row : ℕ) (registry rest : List ℕ) → KeyObeys s t → drop (wordsPerRow * row) table ≡ layout t row registry ++ rest → row + size t ≤ n
       → growKey table n s row ≡ grew t (row + size t)
   unfolding size growKey
   key-at t row registry rest f h b =
       rw (f .is, lt-ltb row n (omega (arith, size-pos t)), top-at table (leaf (f .own)) row registry rest (rw (f .is) at h), f .fits, eq-eqb (row + 1) (row + 1) refl)
 
-  item-at : (key : Bool) (t : Tree) (d row : ℕ) (registry rest : List ℕ) → (Fine s d (length registry) t → grow table n s d registry row ≡ grew t (row + size t))
-      → IfKey key (KeyFine s t) (Fine s d (length registry) t) → drop (wordsPerRow * row) table ≡ layout t row registry ++ rest → row + size t ≤ n
+  item-at : (key : Bool) (t : Tree) (d row : ℕ) (registry rest : List ℕ) → (Obeys s d (length registry) t → grow table n s d registry row ≡ grew t (row + size t))
+      → IfKey key (KeyObeys s t) (Obeys s d (length registry) t) → drop (wordsPerRow * row) table ≡ layout t row registry ++ rest → row + size t ≤ n
       → item table n s key (grow table n s d) registry row ≡ grew t (row + size t)
   unfolding item
   item-at true t d row registry rest g f h b = key-at t row registry rest f h b
   item-at false t d row registry rest g f h b = g f
 
   mutual
-    unfolding layout size Fine many grows byShape
+    unfolding layout size Obeys many grows byShape
 
-    pub regrow : (t : Tree) (d row : ℕ) (registry rest : List ℕ) → Fine s d (length registry) t → drop (wordsPerRow * row) table ≡ layout t row registry ++ rest → row + size t ≤ n
+    pub regrow : (t : Tree) (d row : ℕ) (registry rest : List ℕ) → Obeys s d (length registry) t → drop (wordsPerRow * row) table ≡ layout t row registry ++ rest → row + size t ≤ n
         → grow table n s d registry row ≡ grew t (row + size t)
     regrow (leaf o) d row registry rest f h b = grow-at (leaf o) d row registry rest Leaf (f .0) (omega arith) h (f .1) ∙ ends (leaf o) (row + 1) (row + 1) refl
     regrow (refer o) d row registry rest f h b =
@@ -104,7 +104,7 @@ module _ (table : List ℕ) (n : ℕ) (s : List ℕ) where
         let v′ : drop (wordsPerRow * (row + 1 + sizes es)) table ≡ U ++ rest = behind table (row + 1) (sizes es) E (U ++ rest) (length-layouts es true (row + 1) []) v in
         let c = regrows es (d - 1) Entries 0 (row + 1) [] (U ++ rest) (f .3) v (omega arith) in
         let l : length A ≡ o .w0 = length-entries es (row + 1) [] ∙ zero-add (many es) ∙ f .2 in
-        let u = regrow t (d - 1) (row + 1 + sizes es) A rest (subst (λ (x : ℕ). Fine s (d - 1) x t) (sym l) (f .4)) v′ (omega arith) in
+        let u = regrow t (d - 1) (row + 1 + sizes es) A rest (subst (λ (x : ℕ). Obeys s (d - 1) x t) (sym l) (f .4)) v′ (omega arith) in
         let e : ℕ = row + (1 + (sizes es + size t)) in
         let past : row + 1 + sizes es + size t ≡ e = omega arith in
         grow-at (declare o es t) d row registry rest Declare (f .0) (omega arith) h (f .1)
@@ -116,7 +116,7 @@ module _ (table : List ℕ) (n : ℕ) (s : List ℕ) where
         let e : ℕ = row + (1 + size t) in
         let past : row + 1 + size t ≡ e = omega arith in
         let u =
-        regrow t (d - 1) (row + 1) (inBody registry) rest (subst (λ (x : ℕ). Fine s (d - 1) x t) (sym (length-body registry)) (f .2))
+        regrow t (d - 1) (row + 1) (inBody registry) rest (subst (λ (x : ℕ). Obeys s (d - 1) x t) (sym (length-body registry)) (f .2))
         (rest-at table row registry rest (foreign o t) h) (omega arith) in
         grow-at (foreign o t) d row registry rest Whole (f .0) (omega arith) h (f .1)
         ∙ ap (λ (y : Growth). endsAt e (overBody o y)) u
@@ -127,7 +127,7 @@ module _ (table : List ℕ) (n : ℕ) (s : List ℕ) where
         ∙ ap (λ (x : Bool). endsAt (row + 1) (cond x (grew (damaged o) (row + 1)) bad)) (eq-eqb (o .w2) (refusalNumber (f .2 .why)) (f .2 .verdict))
         ∙ ends (damaged o) (row + 1) (row + 1) refl
 
-    pub regrows : (ts : Trees) (d : ℕ) (c : Children) (i row : ℕ) (registry rest : List ℕ) → Fines s d c (length registry) i ts
+    pub regrows : (ts : Trees) (d : ℕ) (c : Children) (i row : ℕ) (registry rest : List ℕ) → ObeyAll s d c (length registry) i ts
         → drop (wordsPerRow * row) table ≡ layouts ts (isEntry c) row registry ++ rest → row + sizes ts ≤ n
         → grows table n s (grow table n s d) c registry i (many ts) row ≡ grewAll ts (row + sizes ts)
     regrows none d c i row registry rest f h b = ap (grewAll none) (sym (add-zero row))
@@ -138,7 +138,7 @@ module _ (table : List ℕ) (n : ℕ) (s : List ℕ) where
         let u : drop (wordsPerRow * row) table ≡ T ++ (L ++ rest) = h ∙ append-assoc T L rest in
         let v : drop (wordsPerRow * (row + size t)) table ≡ L ++ rest = behind table row (size t) T (L ++ rest) (length-layout t row registry) u in
         let a = item-at (isKey c i) t d row registry (L ++ rest) (λ q. regrow t d row registry (L ++ rest) q u (omega arith)) (f .0) u (omega arith) in
-        let o = regrows ts d c (i + 1) (row + size t) R rest (subst (λ (x : ℕ). Fines s d c x (i + 1) ts) (sym (length-grown (isEntry c) registry row)) (f .1)) v (omega arith) in
+        let o = regrows ts d c (i + 1) (row + size t) R rest (subst (λ (x : ℕ). ObeyAll s d c x (i + 1) ts) (sym (length-grown (isEntry c) registry row)) (f .1)) v (omega arith) in
         let past : row + size t + sizes ts ≡ row + (size t + sizes ts) = omega arith in
         ap (λ (p : Growth). andThen p (λ next. grows table n s (grow table n s d) c R (i + 1) (many ts) next)) a
-        ∙ ap (before t) o ∙ ap (grewAll (more t ts)) past
+        ∙ ap (atFront t) o ∙ ap (grewAll (more t ts)) past

@@ -8,7 +8,7 @@ use lib.ListN.{length}
 use Rattle.format.specs.Head.{floatSizes}
 use Rattle.format.specs.declared.head.Holder.{Holder}
 use Rattle.format.specs.Value.{kindOf}
-use Rattle.format.specs.Layout.{aimed}
+use Rattle.rows.specs.Table.{aimed}
 use lib.Dec.{ltb, eqb}
 use borrow.Author.Tests.{eqb-true, ltb-true, lt-ltb}
 use Rattle.wide.proofs.Families.{cond-case}

@@ -6,16 +6,16 @@ use mathlib.Core.List.{List, []}
 use lib.ListN.{length, getD}
 use lib.Dec.{ltb, leb, eqb}
 use Rattle.rows.specs.declared.row.Row.{Row}
-use Rattle.rows.specs.Table.{Own, ownOf, rowAt, lent, limit}
+use Rattle.rows.specs.Table.{Own, ownOf, rowAt, lent, limit, aimed}
 use Rattle.format.specs.declared.head.Children.{Children}
 use Rattle.format.specs.declared.head.Children.the-variants.{Entries}
 use Rattle.format.specs.Tree.{Tree, leaf, refer, hold, declare, foreign, damaged, Trees, none, more}
 use Rattle.format.specs.Value.{Reading, right, wrong, childCount, childrenOf, inForeign, value, whole, isKey}
-use Rattle.format.specs.Layout.{isEntry, grown, entries, inBody, aimed}
+use Rattle.format.specs.Layout.{isEntry, grown, entries, inBody}
 use Rattle.rules.specs.declared.shape.Shape.{Shape}
 use Rattle.rules.specs.declared.shape.Shape.the-variants.{Bad, Leaf, Refer, Hold, Declare, Whole, Damaged}
 use Rattle.rules.specs.Shape.{shapeOf, keyFits}
-use Rattle.format.specs.Refusal.{numberOf as refusalNumber}
+use Rattle.format.specs.Refusal.{refusalNumber}
 
 -- the tree that stands from a row on and the row behind it, or that a rule is broken
 pub data Growth : Type 0 where
@@ -36,13 +36,13 @@ abbrev pub endsAt : ℕ → Growth → Growth
 endsAt end (grew t next) = cond (eqb next end) (grew t next) bad
 endsAt end bad = bad
 
-abbrev pub before : Tree → Growths → Growths
-before t (grewAll ts next) = grewAll (more t ts) next
-before t badAll = badAll
+abbrev pub atFront : Tree → Growths → Growths
+atFront t (grewAll ts next) = grewAll (more t ts) next
+atFront t badAll = badAll
 
 -- one growth, then what follows at the row behind it
 abbrev pub andThen : Growth → (ℕ → Growths) → Growths
-andThen (grew t next) rest = before t (rest next)
+andThen (grew t next) rest = atFront t (rest next)
 andThen bad rest = badAll
 
 -- ---- by what a row that says o holds

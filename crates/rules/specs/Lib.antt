@@ -1,3 +1,3 @@
 pub mod Shape
 pub mod Grow
-pub mod Fine
+pub mod Obeys

@@ -12,27 +12,26 @@ use Rattle.wide.specs.Number.{bytesOf}
 use Rattle.wide.specs.Words.{valueOf}
 use Rattle.wide.proofs.Numbers.{length-bytesOf}
 use Rattle.rows.specs.declared.row.Row.{Row}
-use Rattle.encode.specs.Encode.{hasBytes, payload}
+use Rattle.encode.specs.Encode.{hasBytes, payloadOf}
 use Rattle.encode.proofs.Back.{part-long}
 use Rattle.plan.specs.declared.plan.Plan.{Plan}
-use Rattle.plan.specs.Plan.{marked, planBytes, Plans}
+use Rattle.plan.specs.Contracts.{marksOf, planBytes, Plans, ownHead}
 use Rattle.rows.specs.Table.{ownOf}
 use Rattle.rules.specs.Shape.{named}
-use Rattle.plan.specs.Own.{ownHead}
-use Rattle.spell.specs.Own.{ownBytes, ownSize, Inside}
+use Rattle.spell.specs.Contracts.{ownBytes, ownSize, Inside}
 
 -- ---- marks
 
-pub one-mark : (out : List ℕ) (at m f s : ℕ) → m ≡ 1 → set out at f ≡ sets out at (marked m f s)
-one-mark out at m f s e = ap (λ (x : ℕ). sets out at (marked x f s)) (sym e)
+pub one-mark : (out : List ℕ) (at m f s : ℕ) → m ≡ 1 → set out at f ≡ sets out at (marksOf m f s)
+one-mark out at m f s e = ap (λ (x : ℕ). sets out at (marksOf x f s)) (sym e)
 
-pub two-marks : (out : List ℕ) (at m f s : ℕ) → m ≤ 2 → (m ≡ 0 → ⊥) → (m ≡ 1 → ⊥) → set (set out at f) (at + 1) s ≡ sets out at (marked m f s)
+pub two-marks : (out : List ℕ) (at m f s : ℕ) → m ≤ 2 → (m ≡ 0 → ⊥) → (m ≡ 1 → ⊥) → set (set out at f) (at + 1) s ≡ sets out at (marksOf m f s)
 two-marks out at m f s h z o =
     let e : m ≡ 2 = omega arith in
     let n : at + 1 ≡ suc at = omega arith in
-    ap (λ (x : ℕ). set (set out at f) x s) n ∙ ap (λ (x : ℕ). sets out at (marked x f s)) (sym e)
+    ap (λ (x : ℕ). set (set out at f) x s) n ∙ ap (λ (x : ℕ). sets out at (marksOf x f s)) (sym e)
 
-marks-long : (m f s : ℕ) → m ≤ 2 → length (marked m f s) ≡ m
+marks-long : (m f s : ℕ) → m ≤ 2 → length (marksOf m f s) ≡ m
 marks-long m f s h = length-take m (f ∷ s ∷ []) ∙ min-eq-left h
 
 -- ---- a plan
@@ -40,13 +39,13 @@ marks-long m f s h = length-take m (f ∷ s ∷ []) ∙ min-eq-left h
 pub plan-long : (p : Plan) → p .marks ≤ 2 → length (planBytes p) ≡ p .marks + 1 + p .size
 unfolding planBytes
 plan-long p h =
-    omega (arith, length-append (marked (p .marks) (p .first) (p .second)) (p .lead ∷ bytesOf (p .size) (valueOf (p .value))), marks-long (p .marks) (p .first) (p .second) h, length-bytesOf (p .size) (valueOf (p .value)))
+    omega (arith, length-append (marksOf (p .marks) (p .first) (p .second)) (p .lead ∷ bytesOf (p .size) (valueOf (p .value))), marks-long (p .marks) (p .first) (p .second) h, length-bytesOf (p .size) (valueOf (p .value)))
 
-pub plan-put : (out out₁ out₂ : List ℕ) (at next : ℕ) (p : Plan) → p .marks ≤ 2 → next ≡ at + p .marks → out₁ ≡ sets out at (marked (p .marks) (p .first) (p .second))
+pub plan-put : (out out₁ out₂ : List ℕ) (at next : ℕ) (p : Plan) → p .marks ≤ 2 → next ≡ at + p .marks → out₁ ≡ sets out at (marksOf (p .marks) (p .first) (p .second))
     → out₂ ≡ sets (set out₁ next (p .lead)) (next + 1) (bytesOf (p .size) (valueOf (p .value))) → out₂ ≡ sets out at (planBytes p)
 unfolding planBytes
 plan-put out out₁ out₂ at next p h n e g =
-    let ms : List ℕ = marked (p .marks) (p .first) (p .second) in
+    let ms : List ℕ = marksOf (p .marks) (p .first) (p .second) in
     let B : List ℕ = bytesOf (p .size) (valueOf (p .value)) in
     let k : next ≡ at + length ms = omega (arith, n, marks-long (p .marks) (p .first) (p .second) h) in
     let i : next + 1 ≡ suc next = omega arith in
@@ -203,4 +202,4 @@ module _ (w : Row) (size : ℕ) (p : Plan) (h : Plans p (ownHead w size)) where
 
   pub plan-room : (s : List ℕ) (at : ℕ) (out : List ℕ) → at + length (ownBytes s w size) ≤ length out → at + length (planBytes p) ≤ length out
   unfolding ownBytes
-  plan-room s at out r = omega (arith, r, length-append (ownHead w size) (payload s (ownOf w)), ap length (h .spells))
+  plan-room s at out r = omega (arith, r, length-append (ownHead w size) (payloadOf s (ownOf w)), ap length (h .spells))

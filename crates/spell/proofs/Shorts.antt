@@ -7,7 +7,7 @@ use native.Mathlib.Omega.{arith}
 use lib.ListN.{length, take, drop, length-append}
 use Rattle.wide.specs.declared.wide.Wide.{Wide}
 use Rattle.wide.specs.Number.{bytesOf}
-use Rattle.wide.specs.Words.{whole, valueOf, words}
+use Rattle.wide.specs.Words.{wideEnd, valueOf, words}
 use Rattle.wide.specs.Body.{sizeAt, rank}
 use Rattle.wide.specs.Family.{Family, hasNumber, byteOf, unmarkedForm, form}
 use Rattle.wide.specs.Members.{integerSigned, integerUnsigned, textLength, binaryLength, keyLength, referenceNumber, declarationCount, foreignLength}
@@ -24,13 +24,13 @@ use Rattle.rules.specs.declared.kind.Kind.the-variants.{Constant, Small, Signed
 use Rattle.encode.specs.Encode.{holderCount, headFor, hasBytes}
 use Rattle.encode.proofs.Back.{part-long}
 use Rattle.rules.specs.Shape.{named}
-use Rattle.plan.specs.Own.{ownHead}
+use Rattle.plan.specs.Contracts.{ownHead}
 use Rattle.plan.proofs.Forms.{double-whole}
-use Rattle.spell.specs.Own.{ownBytes, ownSize, Inside}
+use Rattle.spell.specs.Contracts.{ownBytes, ownSize, Inside}
 
 -- ---- heads
 
-form-short : (F : Family) (n : ℕ) → n < whole → length (form F n) ≤ length (F .marker) + 17
+form-short : (F : Family) (n : ℕ) → n < wideEnd → length (form F n) ≤ length (F .marker) + 17
 unfolding form unmarkedForm
 form-short F n h =
     cond-case (λ (x : List ℕ). length x ≤ length (F .marker) + 17) (hasNumber (F .alone) n) (byteOf (F .alone) n ∷ []) (F .marker ++ unmarkedForm F n)
@@ -43,16 +43,16 @@ form-short F n h =
         (λ _. omega arith)
         (λ _. omega (arith, length-bytesOf (sizeAt (rank (F .signed) n)) n, size-high (rank (F .signed) n) (rank-lt (F .signed) n h)))
 
-holder-short : (h : Holder) (n : ℕ) → n < whole → length (form (holderCount h) n) ≤ 19
+holder-short : (h : Holder) (n : ℕ) → n < wideEnd → length (form (holderCount h) n) ≤ 19
 holder-short Array n l = omega (arith, form-short (holderCount Array) n l)
 holder-short Record n l = omega (arith, form-short (holderCount Record) n l)
 holder-short Map n l = omega (arith, form-short (holderCount Map) n l)
 
-module _ (o : Own) (size : ℕ) (h : Words (words (o .w0) (o .w1) (o .w2) (o .w3))) (l : size < whole) where
+module _ (o : Own) (size : ℕ) (h : Words (words (o .w0) (o .w1) (o .w2) (o .w3))) (l : size < wideEnd) where
   abbrev W : Wide
   W = words (o .w0) (o .w1) (o .w2) (o .w3)
 
-  word : (n : ℕ) → n < 2 ^ 32 → n < whole
+  word : (n : ℕ) → n < 2 ^ 32 → n < wideEnd
   word n g = omega (arith, double-whole)
 
   pub head-short : (K : Kind) → length (headFor o size K) ≤ 19
@@ -84,7 +84,7 @@ own-long s w size i = length-append (ownHead w size) _ ∙ ap (λ (x : ℕ). len
     of true g = part-long s (w .w0) (w .w1) (g refl)
     of false g = refl
 
-pub own-few : (s : List ℕ) (w : Row) (size : ℕ) → Inside s w → Words (words (w .w0) (w .w1) (w .w2) (w .w3)) → size < whole → ownSize w size ≤ 19 + length s
+pub own-few : (s : List ℕ) (w : Row) (size : ℕ) → Inside s w → Words (words (w .w0) (w .w1) (w .w2) (w .w3)) → size < wideEnd → ownSize w size ≤ 19 + length s
 unfolding ownSize ownHead Inside
 own-few s w size i h l =
     cond-case (λ (x : ℕ). length (ownHead w size) + x ≤ 19 + length s) (hasBytes (named (ownOf w))) (w .w1) 0

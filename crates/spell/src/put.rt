@@ -5,10 +5,10 @@ ghost use Prim.Native.Nat.{_+_, _≤_};
 ghost use lib.ListN.{length, take, drop};
 ghost use lib.Seq.{sets};
 ghost use Rattle.encode.specs.Encode.{hasBytes};
-ghost use Rattle.plan.specs.Plan.{marked, planBytes};
+ghost use Rattle.plan.specs.Contracts.{marksOf, planBytes};
 ghost use Rattle.rows.specs.Table.{ownOf};
 ghost use Rattle.rules.specs.Shape.{named};
-ghost use Rattle.spell.specs.Own.{Inside, ownBytes, ownSize};
+ghost use Rattle.spell.specs.Contracts.{Inside, ownBytes, ownSize};
 use plan::Plan;
 use plan::head_of;
 use rows::Row;
@@ -52,7 +52,7 @@ pub fn row_size(w: Row, size: usize) -> usize
 fn put_marks(out: &mut [u8], at: usize, p: Plan) -> usize
     requires { ⌜ (p .marks ≤ 2) × (at + p .marks ≤ length (now out)) ⌝ }
     ensures { λ r. ⌜ r ≡ at + p .marks ⌝ }
-    ensures { λ _. ⌜ now (out .exit) ≡ sets (now (out .entry)) at (marked (p .marks) (p .first) (p .second)) ⌝ }
+    ensures { λ _. ⌜ now (out .exit) ≡ sets (now (out .entry)) at (marksOf (p .marks) (p .first) (p .second)) ⌝ }
 {
     if p.marks == 0 {
         return at;

@@ -2,7 +2,7 @@
 // that one's parameters; the proofs are walks by hand.
 ghost use mathlib.Core.Path.{_≡_};
 ghost use Rattle.walker.specs.Walk.{standing, startOf, stepIn};
-ghost use Rattle.table_walker.specs.Held.{walkerAt, walkerIn, walkerOn, walkerAlong};
+ghost use Rattle.table_walker.specs.TableWalker.{walkerAt, walkerIn, walkerOn, walkerAlong};
 use walker::Step;
 
 // A table of n rows, and a standing on it.

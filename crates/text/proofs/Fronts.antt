@@ -6,11 +6,13 @@ use mathlib.Core.Logic.{_⊎_, inl, inr, ⊎-elim}
 use mathlib.Core.Path.{_≡_, refl, ap, subst}
 use native.Mathlib.Omega.{arith}
 use lib.ListN.{length, take}
-use Rattle.text.specs.Syntax.{_to_, Line, UTF8-char, Sequence, end, byte}
-use Rattle.text.specs.Check.{within, fits, taken, sequence}
+use Rattle.text.specs.Syntax.{_to_, Line, UTF8-char}
+use Rattle.text.specs.Grammar.{end, byte}
+use Rattle.text.specs.Grammar.{Sequence}
+use Rattle.text.specs.Check.{inRange, matches, taken, sequence}
 use Rattle.text.proofs.Table.{within-true, within-bounds, Ordered, ordered, below}
 
-sequence-fits : {l : Line} {q : List ℕ} → Sequence l q → (s : List ℕ) → fits l (q ++ s) ≡ true
+sequence-fits : {l : Line} {q : List ℕ} → Sequence l q → (s : List ℕ) → matches l (q ++ s) ≡ true
 sequence-fits end s = refl
 sequence-fits (byte {low} {high} {b} x y h) s = simp (within-true low high b x y) (sequence-fits h s)
 
@@ -22,11 +24,11 @@ both : (a b : Bool) → a && b ≡ true → (a ≡ true) × (b ≡ true)
 both true b e = (refl, e)
 both false b e = absurd (false≢true e)
 
-fits-sequence : (l : Line) (s : List ℕ) → fits l s ≡ true → Sequence l (take (length l) s) × (length l ≤ length s)
+fits-sequence : (l : Line) (s : List ℕ) → matches l s ≡ true → Sequence l (take (length l) s) × (length l ≤ length s)
 fits-sequence [] s e = (end, omega arith)
 fits-sequence (r ∷ l) [] e = absurd (false≢true e)
 fits-sequence (low to high ∷ l) (b ∷ s) e =
-    let p = both (within (low to high) b) (fits l s) e in
+    let p = both (inRange (low to high) b) (matches l s) e in
     let w = within-bounds low high b (p .0) in
     let h = fits-sequence l s (p .1) in
     (byte (w .0) (w .1) (h .0), omega arith)
@@ -35,14 +37,14 @@ fits-sequence (low to high ∷ l) (b ∷ s) e =
 record Taken (ls : List Line) (s : List ℕ) (n : ℕ) : Type 0 where
   line : Line
   listed : List·Memᴰ line ls
-  fitting : fits line s ≡ true
+  fitting : matches line s ≡ true
   long : length line ≡ n
 
 taken-line : (ls : List Line) (s : List ℕ) (n : ℕ) → 0 < n → taken ls s ≡ n → Taken ls s n
 taken-line [] s n h e = absurd (omega arith)
-taken-line (l ∷ ls) s n h e = go (fits l s) refl e (taken-line ls s n h)
+taken-line (l ∷ ls) s n h e = go (matches l s) refl e (taken-line ls s n h)
   where
-    go : (t : Bool) → fits l s ≡ t → cond t (length l) (taken ls s) ≡ n → (taken ls s ≡ n → Taken ls s n) → Taken (l ∷ ls) s n
+    go : (t : Bool) → matches l s ≡ t → cond t (length l) (taken ls s) ≡ n → (taken ls s ≡ n → Taken ls s n) → Taken (l ∷ ls) s n
     go true f q r = record { line = l; listed = List·Memᴰ·head refl; fitting = f; long = q }
     go false f q r =
         let k = r q in
@@ -76,7 +78,7 @@ takes floor [] o m h s = absurd (List·Memᴰ·not-nil m)
 takes floor ([] ∷ ls) o m h s = absurd o
 takes floor ((low to high ∷ k) ∷ ls) o {l} {b} {q} m h s = go (List·Memᴰ·cases-cons m) (λ n. takes (suc high) ls (o .3) n h s)
   where
-    later : (t : Bool) → within (low to high) b ≡ t → taken ls (b ∷ (q ++ s)) ≡ suc (length q) → cond (t && fits k (q ++ s)) (suc (length k)) (taken ls (b ∷ (q ++ s))) ≡ suc (length q)
+    later : (t : Bool) → inRange (low to high) b ≡ t → taken ls (b ∷ (q ++ s)) ≡ suc (length q) → cond (t && matches k (q ++ s)) (suc (length k)) (taken ls (b ∷ (q ++ s))) ≡ suc (length q)
     later true w r = absurd (omega (arith, below (suc high) ls (o .3) b (omega (arith, within-bounds low high b w)) (q ++ s)))
     later false w r = r
 
@@ -84,7 +86,7 @@ takes floor ((low to high ∷ k) ∷ ls) o {l} {b} {q} m h s = go (List·Memᴰ�
     go (inl e) r =
         let n = subst (λ (x : Line). Sequence x (b ∷ q)) e h in
         rw (sequence-fits n s) (sequence-length n)
-    go (inr n) r = later (within (low to high) b) refl (r n)
+    go (inr n) r = later (inRange (low to high) b) refl (r n)
 
 pub sequence-taken : {l : Line} {q : List ℕ} → List·Memᴰ l UTF8-char → Sequence l q → (s : List ℕ) → sequence (q ++ s) ≡ length q
 unfolding sequence

@@ -8,7 +8,7 @@ use lib.ListN.{length, take, drop, length-drop, take-append-drop}
 use lib.Seq.{length-take-le}
 use Rattle.text.specs.declared.answer.Text.{Text}
 use Rattle.text.specs.declared.answer.Text.the-variants.{WellFormed, IllFormed}
-use Rattle.text.specs.Syntax.{Sequences, Breaks}
+use Rattle.text.specs.Grammar.{Sequences, Breaks}
 use Rattle.text.specs.Check.{textFrom, textOf}
 use Rattle.text.proofs.Walks.{stops}
 use Rattle.text.proofs.Runs.{passed, join, nothing, Judged, judged}

@@ -8,8 +8,8 @@ use lib.ListN.{length, getD, replicate, length-replicate}
 use Rattle.text.specs.declared.lead.Lead.{Lead}
 use Rattle.text.specs.declared.lead.Lead.the-variants.{Starts, Never}
 use Rattle.text.specs.Syntax.{Range, _to_, Line, UTF8-tail, UTF8-char}
-use Rattle.text.specs.Check.{within, fits, taken, sequence}
-use Rattle.text.specs.Lead.{lineIn, leads, leadOf}
+use Rattle.text.specs.Check.{inRange, matches, taken, sequence}
+use Rattle.text.specs.Contracts.{lineIn, leads, leadOf}
 use Rattle.text.proofs.Table.{within-true, within-false, within-bounds, Tailed, Ordered, ordered, below}
 
 -- b is in the first range of line n, and in none before it; past the last line it is in none
@@ -48,16 +48,16 @@ told r [] t = refl
 told r (low to high ∷ l) t = ap (λ (k : Line). low to high ∷ k) t
 
 starts : (floor : ℕ) (ls : List Line) → Ordered floor ls → (b n low high : ℕ) (s : List ℕ) → leads (lineIn ls b) ≡ Starts n low high
-    → taken ls (b ∷ s) ≡ cond (fits (tails n low high) s) (suc n) 0
+    → taken ls (b ∷ s) ≡ cond (matches (tails n low high) s) (suc n) 0
 starts floor [] o b n low high s e =
     let z : _≡_ {A = ℕ} 0 1 = cc in
     absurd (omega arith)
 starts floor ([] ∷ ls) o b n low high s e = absurd o
-starts floor ((lo to hi ∷ l) ∷ ls) o b n low high s e = go (within (lo to hi) b) refl e (starts (suc hi) ls (o .3) b n low high s)
+starts floor ((lo to hi ∷ l) ∷ ls) o b n low high s e = go (inRange (lo to hi) b) refl e (starts (suc hi) ls (o .3) b n low high s)
   where
-    go : (t : Bool) → within (lo to hi) b ≡ t → leads (cond t (lo to hi ∷ l) (lineIn ls b)) ≡ Starts n low high
-        → (leads (lineIn ls b) ≡ Starts n low high → taken ls (b ∷ s) ≡ cond (fits (tails n low high) s) (suc n) 0)
-        → cond (t && fits l s) (suc (length l)) (taken ls (b ∷ s)) ≡ cond (fits (tails n low high) s) (suc n) 0
+    go : (t : Bool) → inRange (lo to hi) b ≡ t → leads (cond t (lo to hi ∷ l) (lineIn ls b)) ≡ Starts n low high
+        → (leads (lineIn ls b) ≡ Starts n low high → taken ls (b ∷ s) ≡ cond (matches (tails n low high) s) (suc n) 0)
+        → cond (t && matches l s) (suc (length l)) (taken ls (b ∷ s)) ≡ cond (matches (tails n low high) s) (suc n) 0
     go true w q r =
         let rest : l ≡ tails n low high = told (lo to hi) l (o .2) ∙ ap tailsOf q in
         rw (below (suc hi) ls (o .3) b (omega (arith, within-bounds lo hi b w)) s, rest, length-tails n low high)
@@ -66,7 +66,7 @@ starts floor ((lo to hi ∷ l) ∷ ls) o b n low high s e = go (within (lo to hi
 never : (ls : List Line) (b : ℕ) (s : List ℕ) → leads (lineIn ls b) ≡ Never → taken ls (b ∷ s) ≡ 0
 never [] b s e = refl
 never ([] ∷ ls) b s e = refl
-never ((r ∷ l) ∷ ls) b s e = go (within r b) e (never ls b s)
+never ((r ∷ l) ∷ ls) b s e = go (inRange r b) e (never ls b s)
   where
     starting : (l : Line) → leads (r ∷ l) ≡ Never → ⊥
     starting [] q =
@@ -77,11 +77,11 @@ never ((r ∷ l) ∷ ls) b s e = go (within r b) e (never ls b s)
         omega arith
 
     go : (t : Bool) → leads (cond t (r ∷ l) (lineIn ls b)) ≡ Never → (leads (lineIn ls b) ≡ Never → taken ls (b ∷ s) ≡ 0)
-        → cond (t && fits l s) (suc (length l)) (taken ls (b ∷ s)) ≡ 0
+        → cond (t && matches l s) (suc (length l)) (taken ls (b ∷ s)) ≡ 0
     go true q f = absurd (starting l q)
     go false q f = f q
 
-pub lead-starts : (b n low high : ℕ) (s : List ℕ) → leadOf b ≡ Starts n low high → sequence (b ∷ s) ≡ cond (fits (tails n low high) s) (suc n) 0
+pub lead-starts : (b n low high : ℕ) (s : List ℕ) → leadOf b ≡ Starts n low high → sequence (b ∷ s) ≡ cond (matches (tails n low high) s) (suc n) 0
 unfolding leadOf sequence
 lead-starts b n low high s e = starts 0 UTF8-char ordered b n low high s e
 

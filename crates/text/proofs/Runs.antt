@@ -8,7 +8,9 @@ use lib.ListN.{length, take, drop, length-append, length-drop, take-append-drop}
 use lib.Seq.{drop-append-seam, take-add, drop-drop}
 use Rattle.text.specs.declared.answer.Text.{Text}
 use Rattle.text.specs.declared.answer.Text.the-variants.{WellFormed, IllFormed}
-use Rattle.text.specs.Syntax.{Line, UTF8-char, Sequence, Sequences, none, more, Breaks}
+use Rattle.text.specs.Syntax.{Line, UTF8-char}
+use Rattle.text.specs.Grammar.{none, more}
+use Rattle.text.specs.Grammar.{Sequence, Sequences, Breaks}
 use Rattle.text.specs.Check.{sequence, begins, textFrom}
 use Rattle.text.proofs.Fronts.{Front, front, sequence-taken, sequence-bytes}
 use Rattle.text.proofs.Walks.{goes-on}

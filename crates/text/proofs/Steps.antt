@@ -14,8 +14,8 @@ use Rattle.text.specs.declared.answer.Text.the-variants.{WellFormed, Ill
 use Rattle.text.specs.declared.lead.Lead.{Lead}
 use Rattle.text.specs.declared.lead.Lead.the-variants.{Starts, Never}
 use Rattle.text.specs.Syntax.{Line, UTF8-tail}
-use Rattle.text.specs.Lead.{leadOf}
-use Rattle.text.specs.Check.{fits, sequence, textFrom, textOf}
+use Rattle.text.specs.Contracts.{leadOf}
+use Rattle.text.specs.Check.{matches, sequence, textFrom, textOf}
 use Rattle.text.proofs.Table.{within-true, within-false}
 use Rattle.text.proofs.Leads.{tails, lead-at, lead-starts, lead-never}
 use Rattle.text.proofs.Walks.{goes-on, stops}
@@ -29,7 +29,7 @@ pub record Reached (s : List ℕ) (i : ℕ) : Type 0 where
 pub record Passing (s : List ℕ) (i n low high at : ℕ) : Type 0 where
   pub begun : i < at
   pub inside : at ≤ length s
-  pub rest : sequence (drop i s) ≡ cond (fits (tails n low high) (drop at s)) (at - i + n) 0
+  pub rest : sequence (drop i s) ≡ cond (matches (tails n low high) (drop at s)) (at - i + n) 0
 
 pub start : (s : List ℕ) → Reached s 0
 unfolding textOf
@@ -85,17 +85,17 @@ all-tails : (n : ℕ) → replicate n UTF8-tail ≡ tails n 0x80 0xBF
 all-tails zero = refl
 all-tails (suc n) = refl
 
-one-tail : (n low high b : ℕ) (s : List ℕ) → 0 < n → low ≤ b → b ≤ high → fits (tails n low high) (b ∷ s) ≡ fits (tails (n - 1) 0x80 0xBF) s
+one-tail : (n low high b : ℕ) (s : List ℕ) → 0 < n → low ≤ b → b ≤ high → matches (tails n low high) (b ∷ s) ≡ matches (tails (n - 1) 0x80 0xBF) s
 one-tail zero low high b s h x y = absurd (omega arith)
 one-tail (suc n) low high b s h x y =
     let k : suc n - 1 ≡ n = omega arith in
-    rw (k, within-true low high b x y) (ap (λ (l : Line). fits l s) (all-tails n))
+    rw (k, within-true low high b x y) (ap (λ (l : Line). matches l s) (all-tails n))
 
-no-tail : (n low high b : ℕ) (s : List ℕ) → 0 < n → (low ≤ b → high < b) → fits (tails n low high) (b ∷ s) ≡ false
+no-tail : (n low high b : ℕ) (s : List ℕ) → 0 < n → (low ≤ b → high < b) → matches (tails n low high) (b ∷ s) ≡ false
 no-tail zero low high b s h x = absurd (omega arith)
 no-tail (suc n) low high b s h x = simp (within-false low high b x)
 
-no-byte : (n low high : ℕ) → 0 < n → fits (tails n low high) [] ≡ false
+no-byte : (n low high : ℕ) → 0 < n → matches (tails n low high) [] ≡ false
 no-byte zero low high h = absurd (omega arith)
 no-byte (suc n) low high h = refl
 
@@ -111,7 +111,7 @@ whole s i zero low high at r p h = found s i at r (p .begun) (p .inside) (p .res
 whole s i (suc n) low high at r p h = absurd (omega arith)
 
 module _ (s : List ℕ) (i n low high at : ℕ) (r : Reached s i) (p : Passing s i n low high at) (h : 0 < n) where
-  failed : fits (tails n low high) (drop at s) ≡ false → IllFormed i ≡ textOf s
+  failed : matches (tails n low high) (drop at s) ≡ false → IllFormed i ≡ textOf s
   failed e = lost s i r (omega arith) (p .rest ∙ rw e)
 
   pub cut : length s ≤ at → IllFormed i ≡ textOf s

@@ -9,19 +9,19 @@ use borrow.Author.Tests.{le-leb, lt-leb, leb-true}
 use lib.Dec.{leb}
 use lib.ListN.{length, replicate}
 use Rattle.text.specs.Syntax.{_to_, Line, UTF8-tail, UTF8-char}
-use Rattle.text.specs.Check.{within, taken}
+use Rattle.text.specs.Check.{inRange, taken}
 
-pub within-true : (low high b : ℕ) → low ≤ b → b ≤ high → within (low to high) b ≡ true
+pub within-true : (low high b : ℕ) → low ≤ b → b ≤ high → inRange (low to high) b ≡ true
 within-true low high b p q = simp (le-leb, p, q)
 
-pub within-false : (low high b : ℕ) → (low ≤ b → high < b) → within (low to high) b ≡ false
+pub within-false : (low high b : ℕ) → (low ≤ b → high < b) → inRange (low to high) b ≡ false
 within-false low high b p = go (leb low b) refl
   where
     go : (t : Bool) → leb low b ≡ t → t && leb b high ≡ false
     go true e = lt-leb b high (p (leb-true low b e))
     go false e = refl
 
-pub within-bounds : (low high b : ℕ) → within (low to high) b ≡ true → (low ≤ b) × (b ≤ high)
+pub within-bounds : (low high b : ℕ) → inRange (low to high) b ≡ true → (low ≤ b) × (b ≤ high)
 within-bounds low high b w = go (leb low b) refl w
   where
     go : (t : Bool) → leb low b ≡ t → t && leb b high ≡ true → (low ≤ b) × (b ≤ high)

@@ -9,19 +9,19 @@ use Rattle.text.specs.declared.answer.Text.the-variants.{WellFormed, Ill
 use Rattle.text.specs.Syntax.{Range, _to_, Line, UTF8-char}
 
 -- b is a byte of the range
-abbrev pub within : Range → ℕ → Bool
-within (low to high) b = leb low b && leb b high
+abbrev pub inRange : Range → ℕ → Bool
+inRange (low to high) b = leb low b && leb b high
 
 -- a sequence of this line stands at the front of s
-abbrev pub fits : Line → List ℕ → Bool
-fits [] s = true
-fits (r ∷ l) [] = false
-fits (r ∷ l) (b ∷ s) = within r b && fits l s
+abbrev pub matches : Line → List ℕ → Bool
+matches [] s = true
+matches (r ∷ l) [] = false
+matches (r ∷ l) (b ∷ s) = inRange r b && matches l s
 
 -- how many bytes the first of these lines that fits takes, 0 where none fits
 abbrev pub taken : List Line → List ℕ → ℕ
 taken [] s = 0
-taken (l ∷ ls) s = cond (fits l s) (length l) (taken ls s)
+taken (l ∷ ls) s = cond (matches l s) (length l) (taken ls s)
 
 -- how many bytes the sequence at the front of s takes, 0 where none stands there
 unfoldable pub sequence : List ℕ → ℕ

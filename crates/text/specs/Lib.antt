@@ -1,3 +1,4 @@
 pub mod Syntax
 pub mod Check
-pub mod Lead
+pub mod Contracts
+pub mod Grammar

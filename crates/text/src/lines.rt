@@ -1,6 +1,6 @@
 use super::lead::Lead;
 ghost use mathlib.Core.Path.{_≡_};
-ghost use Rattle.text.specs.Lead.{leadOf};
+ghost use Rattle.text.specs.Contracts.{leadOf};
 
 // The lines of RFC 3629, section 4, in its order, told apart by their first byte.
 pub fn lead_of(b: u8) -> Lead

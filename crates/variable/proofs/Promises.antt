@@ -14,7 +14,7 @@ use Rattle.variable.specs.declared.answer.Read.the-variants.{Got}
 use Rattle.variable.specs.declared.answer.Written.{Written}
 use Rattle.wide.specs.Words.{valueOf, wideOf}
 use Rattle.wide.specs.Family.{Family, Coded, is, short, other, coded, form}
-use Rattle.wide.specs.Members.{variable}
+use Rattle.wide.specs.Contracts.{variable}
 use Rattle.variable.specs.Answer.{readAs, readOf, writtenOf, outputOf}
 use Rattle.wide.proofs.Numbers.{Bytes}
 use Rattle.wide.proofs.Wides.{Words, wide-value, value-lt, value-wide}

@@ -13,10 +13,11 @@ use borrow.Author.Tests.{le-leb, lt-leb, lt-ltb, le-ltb}
 use Rattle.wide.specs.declared.wide.Wide.{Wide}
 use Rattle.variable.specs.declared.answer.Read.the-variants.{Got, Short}
 use Rattle.wide.specs.Number.{bytesOf}
-use Rattle.wide.specs.Words.{whole, wideOf}
+use Rattle.wide.specs.Words.{wideEnd, wideOf}
 use Rattle.wide.specs.Body.{sizeAt, bodyValue, rank}
 use Rattle.wide.specs.Family.{behind, hasByte, numberOf, hasNumber, byteOf, Coded, is, short, other, longer, body, unmarked, marked, coded, unmarkedForm, form}
-use Rattle.wide.specs.Members.{none, unsigned, signed, variable}
+use Rattle.wide.specs.Members.{none, unsigned, signed}
+use Rattle.wide.specs.Contracts.{variable}
 use Rattle.variable.specs.Answer.{readAs, readOf}
 use Rattle.wide.proofs.Numbers.{either, Bytes}
 use Rattle.wide.proofs.Nearness.{behind-up, behind-round, behind-zero}
@@ -25,12 +26,12 @@ use Rattle.wide.proofs.Families.{cond-yes, cond-no, coded-marked}
 
 -- ---- the numbers of direct bytes
 
-pub number-plain : (b : ℕ) → b < 256 → (whole - 0 + b) % whole ≡ numberOf (unsigned .direct) b
+pub number-plain : (b : ℕ) → b < 256 → (wideEnd - 0 + b) % wideEnd ≡ numberOf (unsigned .direct) b
 unfolding behind
 number-plain b h =
-    let e : whole - 0 + b ≡ b + whole = omega arith in
+    let e : wideEnd - 0 + b ≡ b + wideEnd = omega arith in
     let f : 0 + (b + (256 - 0)) % 256 ≡ b = omega arith in
-    ap (λ (x : ℕ). x % whole) e ∙ add-mod-right b whole ∙ sym (ap (λ (x : ℕ). x % whole) f)
+    ap (λ (x : ℕ). x % wideEnd) e ∙ add-mod-right b wideEnd ∙ sym (ap (λ (x : ℕ). x % wideEnd) f)
 
 -- a byte is direct exactly where no body follows it
 direct-byte : (s : Bool) (b : ℕ) → b < 256 → hasByte (variable s .direct) b ≡ not (ltb (behind 256 (variable s .first) b) 8)
@@ -127,13 +128,13 @@ module _ (s : Bool) where
 
 -- ---- writing, by each way out
 
-byte-plain : (n : ℕ) → n < whole → byteOf (unsigned .direct) n ≡ n % 256
+byte-plain : (n : ℕ) → n < wideEnd → byteOf (unsigned .direct) n ≡ n % 256
 byte-plain n h =
     let e : 0 + (n + 0) ≡ n = omega arith in
     ap (λ (x : ℕ). (0 + x) % 256) (sym (behind-zero n) ∙ behind-up 0 n (lit≤ tt) (omega arith)) ∙ ap (λ (x : ℕ). x % 256) e
 
-whole-bytes : whole ≡ 256 * 2 ^ 120
-unfolding whole
+whole-bytes : wideEnd ≡ 256 * 2 ^ 120
+unfolding wideEnd
 whole-bytes = refl
 
 -- going round at whole leaves the low byte
@@ -143,22 +144,22 @@ round-byte n m c e h l = omega arith
 near-byte : (n : ℕ) → (0x84 + (n + 124)) % 256 ≡ n % 256
 near-byte n = omega arith
 
-byte-signed : (n : ℕ) → n < whole → byteOf (signed .direct) n ≡ n % 256
+byte-signed : (n : ℕ) → n < wideEnd → byteOf (signed .direct) n ≡ n % 256
 byte-signed n h =
-    either whole (n + 124)
-    (λ l. ap (λ (x : ℕ). (0x84 + x) % 256) (behind-round 124 n (lit≤ tt) h l) ∙ round-byte n whole (2 ^ 120) whole-bytes h l)
+    either wideEnd (n + 124)
+    (λ l. ap (λ (x : ℕ). (0x84 + x) % 256) (behind-round 124 n (lit≤ tt) h l) ∙ round-byte n wideEnd (2 ^ 120) whole-bytes h l)
     (λ l. ap (λ (x : ℕ). (0x84 + x) % 256) (behind-up 124 n (lit≤ tt) l) ∙ near-byte n)
 
-low-byte : (s : Bool) (n : ℕ) → n < whole → byteOf (variable s .direct) n ≡ n % 256
+low-byte : (s : Bool) (n : ℕ) → n < wideEnd → byteOf (variable s .direct) n ≡ n % 256
 low-byte true n h = byte-signed n h
 low-byte false n h = byte-plain n h
 
 unmarked-whole : (s : Bool) (n : ℕ) → form (variable s) n ≡ unmarkedForm (variable s) n
 unfolding form
-unmarked-whole true n = cond-no (hasNumber none n) _ _ (le-ltb (behind whole 0 n) 0 (omega arith))
-unmarked-whole false n = cond-no (hasNumber none n) _ _ (le-ltb (behind whole 0 n) 0 (omega arith))
+unmarked-whole true n = cond-no (hasNumber none n) _ _ (le-ltb (behind wideEnd 0 n) 0 (omega arith))
+unmarked-whole false n = cond-no (hasNumber none n) _ _ (le-ltb (behind wideEnd 0 n) 0 (omega arith))
 
-module _ (s : Bool) (n : ℕ) (small : n < whole) where
+module _ (s : Bool) (n : ℕ) (small : n < wideEnd) where
   pub form-one : (t : Bool) (b : ℕ) → t ≡ hasNumber (variable s .direct) n → t ≡ true → b ≡ n % 256 → form (variable s) n ≡ b ∷ []
   unfolding unmarkedForm
   form-one t b e h g =

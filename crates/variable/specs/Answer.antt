@@ -44,10 +44,10 @@ readUsed (Got value used) = used
 readUsed Short = 0
 
 -- "0 accepted: bytes written", "13 no room: bytes needed"
-abbrev pub writtenNumber : Written → ℕ
-writtenNumber (Done used) = 0
-writtenNumber (NoRoom needed) = 13
+abbrev pub codedNumber : Written → ℕ
+codedNumber (Done used) = 0
+codedNumber (NoRoom needed) = 13
 
-abbrev pub writtenBeside : Written → ℕ
-writtenBeside (Done used) = used
-writtenBeside (NoRoom needed) = needed
+abbrev pub codedBeside : Written → ℕ
+codedBeside (Done used) = used
+codedBeside (NoRoom needed) = needed

@@ -3,22 +3,22 @@ use mathlib.Core.Bool.{Bool, true, false}
 use mathlib.Core.List.{List, [], _∷_, _++_}
 use Prim.Native.Nat.{ℕ, _-_, _/_, _^_}
 use lib.ListN.{replicate}
-use Rattle.wide.specs.Words.{whole}
+use Rattle.wide.specs.Words.{wideEnd}
 
 -- a number, signed or not, and its bytes
-pub record Case : Type 0 where
+pub record Example : Type 0 where
   pub signed : Bool
   pub value : ℕ
   pub bytes : List ℕ
 
-abbrev case : Bool → ℕ → List ℕ → Case
+abbrev case : Bool → ℕ → List ℕ → Example
 case s n bs = record { signed = s; value = n; bytes = bs }
 
 -- "124 is `7c 7c`, -125 is `7c 83`, 128 is `7d 80 00`"; then, unsigned and signed, the last number of each form and the first behind it
-unfoldable pub examples : List Case
+unfoldable pub examples : List Example
 examples =
     case true (124) (0x7c ∷ 0x7c ∷ [])
-    ∷ case true (whole - 125) (0x7c ∷ 0x83 ∷ [])
+    ∷ case true (wideEnd - 125) (0x7c ∷ 0x83 ∷ [])
     ∷ case true (128) (0x7d ∷ 0x80 ∷ 0x00 ∷ [])
     ∷ case false (0) (0x00 ∷ [])
     ∷ case false (247) (0xf7 ∷ [])
@@ -40,36 +40,36 @@ examples =
     ∷ case false (256 ^ 16 - 1) ((replicate 17 0xff))
     ∷ case true (0) (0x00 ∷ [])
     ∷ case true (123) (0x7b ∷ [])
-    ∷ case true (whole - 1) (0xff ∷ [])
-    ∷ case true (whole - 124) (0x84 ∷ [])
+    ∷ case true (wideEnd - 1) (0xff ∷ [])
+    ∷ case true (wideEnd - 124) (0x84 ∷ [])
     ∷ case true (256 ^ 1 / 2 - 1) (0x7c ∷ 0x7f ∷ [])
-    ∷ case true (whole - 256 ^ 1 / 2) (0x7c ∷ 0x80 ∷ [])
+    ∷ case true (wideEnd - 256 ^ 1 / 2) (0x7c ∷ 0x80 ∷ [])
     ∷ case true (256 ^ 1 / 2) (0x7d ∷ 0x80 ∷ 0x00 ∷ [])
-    ∷ case true (whole - 256 ^ 1 / 2 - 1) (0x7d ∷ 0x7f ∷ 0xff ∷ [])
+    ∷ case true (wideEnd - 256 ^ 1 / 2 - 1) (0x7d ∷ 0x7f ∷ 0xff ∷ [])
     ∷ case true (256 ^ 2 / 2 - 1) (0x7d ∷ 0xff ∷ 0x7f ∷ [])
-    ∷ case true (whole - 256 ^ 2 / 2) (0x7d ∷ 0x00 ∷ 0x80 ∷ [])
+    ∷ case true (wideEnd - 256 ^ 2 / 2) (0x7d ∷ 0x00 ∷ 0x80 ∷ [])
     ∷ case true (256 ^ 2 / 2) (0x7e ∷ 0x00 ∷ 0x80 ∷ 0x00 ∷ [])
-    ∷ case true (whole - 256 ^ 2 / 2 - 1) (0x7e ∷ 0xff ∷ 0x7f ∷ 0xff ∷ [])
+    ∷ case true (wideEnd - 256 ^ 2 / 2 - 1) (0x7e ∷ 0xff ∷ 0x7f ∷ 0xff ∷ [])
     ∷ case true (256 ^ 3 / 2 - 1) (0x7e ∷ 0xff ∷ 0xff ∷ 0x7f ∷ [])
-    ∷ case true (whole - 256 ^ 3 / 2) (0x7e ∷ 0x00 ∷ 0x00 ∷ 0x80 ∷ [])
+    ∷ case true (wideEnd - 256 ^ 3 / 2) (0x7e ∷ 0x00 ∷ 0x00 ∷ 0x80 ∷ [])
     ∷ case true (256 ^ 3 / 2) (0x7f ∷ 0x00 ∷ 0x00 ∷ 0x80 ∷ 0x00 ∷ [])
-    ∷ case true (whole - 256 ^ 3 / 2 - 1) (0x7f ∷ 0xff ∷ 0xff ∷ 0x7f ∷ 0xff ∷ [])
+    ∷ case true (wideEnd - 256 ^ 3 / 2 - 1) (0x7f ∷ 0xff ∷ 0xff ∷ 0x7f ∷ 0xff ∷ [])
     ∷ case true (256 ^ 4 / 2 - 1) (0x7f ∷ 0xff ∷ 0xff ∷ 0xff ∷ 0x7f ∷ [])
-    ∷ case true (whole - 256 ^ 4 / 2) (0x7f ∷ 0x00 ∷ 0x00 ∷ 0x00 ∷ 0x80 ∷ [])
+    ∷ case true (wideEnd - 256 ^ 4 / 2) (0x7f ∷ 0x00 ∷ 0x00 ∷ 0x00 ∷ 0x80 ∷ [])
     ∷ case true (256 ^ 4 / 2) (0x80 ∷ 0x00 ∷ 0x00 ∷ 0x00 ∷ 0x80 ∷ 0x00 ∷ 0x00 ∷ [])
-    ∷ case true (whole - 256 ^ 4 / 2 - 1) (0x80 ∷ 0xff ∷ 0xff ∷ 0xff ∷ 0x7f ∷ 0xff ∷ 0xff ∷ [])
+    ∷ case true (wideEnd - 256 ^ 4 / 2 - 1) (0x80 ∷ 0xff ∷ 0xff ∷ 0xff ∷ 0x7f ∷ 0xff ∷ 0xff ∷ [])
     ∷ case true (256 ^ 6 / 2 - 1) (0x80 ∷ (replicate 5 0xff ++ (0x7f ∷ [])))
-    ∷ case true (whole - 256 ^ 6 / 2) (0x80 ∷ (replicate 5 0x00 ++ (0x80 ∷ [])))
+    ∷ case true (wideEnd - 256 ^ 6 / 2) (0x80 ∷ (replicate 5 0x00 ++ (0x80 ∷ [])))
     ∷ case true (256 ^ 6 / 2) (0x81 ∷ (replicate 5 0x00 ++ (0x80 ∷ 0x00 ∷ 0x00 ∷ [])))
-    ∷ case true (whole - 256 ^ 6 / 2 - 1) (0x81 ∷ (replicate 5 0xff ++ (0x7f ∷ 0xff ∷ 0xff ∷ [])))
+    ∷ case true (wideEnd - 256 ^ 6 / 2 - 1) (0x81 ∷ (replicate 5 0xff ++ (0x7f ∷ 0xff ∷ 0xff ∷ [])))
     ∷ case true (256 ^ 8 / 2 - 1) (0x81 ∷ (replicate 7 0xff ++ (0x7f ∷ [])))
-    ∷ case true (whole - 256 ^ 8 / 2) (0x81 ∷ (replicate 7 0x00 ++ (0x80 ∷ [])))
+    ∷ case true (wideEnd - 256 ^ 8 / 2) (0x81 ∷ (replicate 7 0x00 ++ (0x80 ∷ [])))
     ∷ case true (256 ^ 8 / 2) (0x82 ∷ (replicate 7 0x00 ++ (0x80 ∷ (replicate 4 0x00))))
-    ∷ case true (whole - 256 ^ 8 / 2 - 1) (0x82 ∷ (replicate 7 0xff ++ (0x7f ∷ (replicate 4 0xff))))
+    ∷ case true (wideEnd - 256 ^ 8 / 2 - 1) (0x82 ∷ (replicate 7 0xff ++ (0x7f ∷ (replicate 4 0xff))))
     ∷ case true (256 ^ 12 / 2 - 1) (0x82 ∷ (replicate 11 0xff ++ (0x7f ∷ [])))
-    ∷ case true (whole - 256 ^ 12 / 2) (0x82 ∷ (replicate 11 0x00 ++ (0x80 ∷ [])))
+    ∷ case true (wideEnd - 256 ^ 12 / 2) (0x82 ∷ (replicate 11 0x00 ++ (0x80 ∷ [])))
     ∷ case true (256 ^ 12 / 2) (0x83 ∷ (replicate 11 0x00 ++ (0x80 ∷ (replicate 4 0x00))))
-    ∷ case true (whole - 256 ^ 12 / 2 - 1) (0x83 ∷ (replicate 11 0xff ++ (0x7f ∷ (replicate 4 0xff))))
+    ∷ case true (wideEnd - 256 ^ 12 / 2 - 1) (0x83 ∷ (replicate 11 0xff ++ (0x7f ∷ (replicate 4 0xff))))
     ∷ case true (256 ^ 16 / 2 - 1) (0x83 ∷ (replicate 15 0xff ++ (0x7f ∷ [])))
-    ∷ case true (whole - 256 ^ 16 / 2) (0x83 ∷ (replicate 15 0x00 ++ (0x80 ∷ [])))
+    ∷ case true (wideEnd - 256 ^ 16 / 2) (0x83 ∷ (replicate 15 0x00 ++ (0x80 ∷ [])))
     ∷ []

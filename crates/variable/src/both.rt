@@ -4,7 +4,7 @@ ghost use Prim.Native.Nat.{_%_};
 ghost use lib.ListN.{length};
 ghost use Rattle.wide.specs.Words.{valueOf, wideOf};
 ghost use Rattle.wide.specs.Family.{behind, numberOf, hasNumber, form};
-ghost use Rattle.wide.specs.Members.{variable};
+ghost use Rattle.wide.specs.Contracts.{variable};
 ghost use Rattle.variable.specs.Answer.{readOf, writtenOf, outputOf};
 use crate::answer::Read;
 use crate::answer::Written;

@@ -1,6 +1,6 @@
 // The paper's numbers for an answer.
 ghost use mathlib.Core.Path.{_≡_};
-ghost use Rattle.variable.specs.Answer.{readNumber, readValue, readUsed, writtenNumber, writtenBeside};
+ghost use Rattle.variable.specs.Answer.{readNumber, readValue, readUsed, codedNumber, codedBeside};
 use crate::answer::Read;
 use crate::answer::Written;
 use wide::Wide;
@@ -45,7 +45,7 @@ impl Read {
 impl Written {
     // 0, or the refusal's number.
     pub fn number(self) -> u32
-        ensures { λ r. ⌜ r ≡ writtenNumber self ⌝ }
+        ensures { λ r. ⌜ r ≡ codedNumber self ⌝ }
     {
         match self {
             Written::Done { used: _ } => 0,
@@ -55,7 +55,7 @@ impl Written {
 
     // The bytes written, or needed.
     pub fn beside(self) -> usize
-        ensures { λ r. ⌜ r ≡ writtenBeside self ⌝ }
+        ensures { λ r. ⌜ r ≡ codedBeside self ⌝ }
     {
         match self {
             Written::Done { used } => used,

@@ -6,23 +6,23 @@ use mathlib.Core.Bool.{Bool, true}
 use mathlib.Core.List.{List}
 use Rattle.rows.specs.Table.{rowAt}
 use Rattle.format.specs.Tree.{Tree}
-use Rattle.rules.specs.Fine.{Stands}
+use Rattle.rules.specs.Obeys.{Stands}
 use Rattle.walker.specs.declared.standing.Standing.{Standing}
 use Rattle.walker.specs.declared.step.Step.the-variants.{To, NoStep}
 use Rattle.walker.specs.Walk.{standing, genuine, asked, stepOn, stepAlong}
 use Rattle.walker.proofs.Along.{reached, on-nowhere}
 use Rattle.walker.proofs.Standings.{is-below}
-use Rattle.walks.specs.Spots.{Spot, nil, rowOf, boundOf}
+use Rattle.walks.specs.Spots.{Spot, nil, spotRow, boundOf}
 use Rattle.walks.proofs.Good.{Good, Linked}
 use Rattle.walks.proofs.Walked.{good-own, here-genuine}
 use Rattle.walks.proofs.Resolves.{row-good}
 
 module _ (table : List ℕ) (n : ℕ) (s : List ℕ) where
   -- a spot's row, with its own end as bound, may be stood on
-  good-genuine : (x : Spot) → Good table n s x → genuine table n (rowOf x) (rowAt table (rowOf x) .end) ≡ true
+  good-genuine : (x : Spot) → Good table n s x → genuine table n (spotRow x) (rowAt table (spotRow x) .end) ≡ true
   unfolding Good Linked boundOf
   good-genuine x g =
-      ap (genuine table n (rowOf x)) (good-own table n s x g .0) ∙ here-genuine table n s x nil record { good = g; goods = tt; linked = tt }
+      ap (genuine table n (spotRow x)) (good-own table n s x g .0) ∙ here-genuine table n s x nil record { good = g; goods = tt; linked = tt }
 
 module _ (depth : ℕ) (table : List ℕ) (n : ℕ) (s : List ℕ) (t : Tree) (st : Stands depth table n s t) where
   -- and so may every row

@@ -14,15 +14,15 @@ use Rattle.format.specs.Tree.{Tree, leaf, refer, hold, declare, foreign, damage
 use Rattle.format.specs.Value.{childrenOf, inForeign}
 use Rattle.format.specs.Layout.{isEntry, layout, layouts, entries, inBody}
 use Rattle.format.proofs.Layouts.{no-entry, length-layout, length-body, below}
-use Rattle.rules.specs.Fine.{KeyFine, IfKey, after, Fine, Fines}
-use Rattle.walks.specs.Spots.{Spot, spot, Spots, nil, cons, rowOf, endOf, rowsOf, behind, front, forBody, held, declared, children}
+use Rattle.rules.specs.Obeys.{KeyObeys, IfKey, after, Obeys, ObeyAll}
+use Rattle.walks.specs.Spots.{Spot, spot, Spots, nil, cons, spotRow, spotEnd, spotRows, added, front, forBody, siblings, declared, children}
 use Rattle.rules.proofs.Regrow.{behind as rows-behind, rest-at}
 
 -- a value that is fine at some depth, or a key
 pub record Right (s : List ℕ) (k : ℕ) (t : Tree) : Type 0 where
   pub key : Bool
   pub levels : ℕ
-  pub fine : IfKey key (KeyFine s t) (Fine s levels k t)
+  pub fine : IfKey key (KeyObeys s t) (Obeys s levels k t)
 
 -- the rows of t stand from `row` on
 pub record Stood (table : List ℕ) (n : ℕ) (s : List ℕ) (t : Tree) (row : ℕ) (registry : List ℕ) : Type 0 where
@@ -35,11 +35,11 @@ pub record Stood (table : List ℕ) (n : ℕ) (s : List ℕ) (t : Tree) (row : �
 -- all of these end at `row` or before
 unfoldable pub Before : ℕ → Spots → Type 0
 Before row nil = Unit {0}
-Before row (cons x xs) = (endOf x ≤ row) × Before row xs
+Before row (cons x xs) = (spotEnd x ≤ row) × Before row xs
 
 unfoldable mutual
   pub Good : List ℕ → ℕ → List ℕ → Spot → Type 0
-  Good table n s (spot t row force) = Stood table n s t row (rowsOf force) × Before row force × Goods table n s force
+  Good table n s (spot t row force) = Stood table n s t row (spotRows force) × Before row force × Goods table n s force
 
   pub Goods : List ℕ → ℕ → List ℕ → Spots → Type 0
   Goods table n s nil = Unit {0}
@@ -48,7 +48,7 @@ unfoldable mutual
 -- each begins where the one before it ends
 unfoldable pub Linked : ℕ → Spots → Type 0
 Linked row nil = Unit {0}
-Linked row (cons x xs) = (rowOf x ≡ row) × Linked (endOf x) xs
+Linked row (cons x xs) = (spotRow x ≡ row) × Linked (spotEnd x) xs
 
 -- a tree that is no leaf is no key
 abbrev pub NoLeaf : Tree → Type 0
@@ -59,10 +59,10 @@ NoLeaf (declare o es t) = Unit {0}
 NoLeaf (foreign o t) = Unit {0}
 NoLeaf (damaged o) = Unit {0}
 
-pub value-fine : (s : List ℕ) (k : ℕ) (t : Tree) → NoLeaf t → (r : Right s k t) → Fine s (r .levels) k t
+pub value-fine : (s : List ℕ) (k : ℕ) (t : Tree) → NoLeaf t → (r : Right s k t) → Obeys s (r .levels) k t
 value-fine s k t never r = of (r .key) (r .fine)
   where
-    of : (b : Bool) → IfKey b (KeyFine s t) (Fine s (r .levels) k t) → Fine s (r .levels) k t
+    of : (b : Bool) → IfKey b (KeyObeys s t) (Obeys s (r .levels) k t) → Obeys s (r .levels) k t
     of true f = absurd (subst NoLeaf (f .is) never)
     of false f = f
 
@@ -73,25 +73,25 @@ unfolding Before
 before-on row next nil h b = tt
 before-on row next (cons x xs) h b = (omega (arith, b .0), before-on row next xs h (b .1))
 
-pub rows-behind-one : (xs : Spots) (x : Spot) → rowsOf (behind xs x) ≡ rowsOf xs ++ (rowOf x ∷ [])
-unfolding behind
+pub rows-behind-one : (xs : Spots) (x : Spot) → spotRows (added xs x) ≡ spotRows xs ++ (spotRow x ∷ [])
+unfolding added
 rows-behind-one nil x = refl
-rows-behind-one (cons y ys) x = ap (λ (l : List ℕ). rowOf y ∷ l) (rows-behind-one ys x)
+rows-behind-one (cons y ys) x = ap (λ (l : List ℕ). spotRow y ∷ l) (rows-behind-one ys x)
 
-before-behind : (row : ℕ) (xs : Spots) (x : Spot) → Before row xs → endOf x ≤ row → Before row (behind xs x)
-unfolding Before behind
+before-behind : (row : ℕ) (xs : Spots) (x : Spot) → Before row xs → spotEnd x ≤ row → Before row (added xs x)
+unfolding Before added
 before-behind row nil x b h = (h, tt)
 before-behind row (cons y ys) x b h = (b .0, before-behind row ys x (b .1) h)
 
-rows-front : (k : ℕ) (xs : Spots) → rowsOf (front k xs) ≡ take k (rowsOf xs)
+rows-front : (k : ℕ) (xs : Spots) → spotRows (front k xs) ≡ take k (spotRows xs)
 unfolding front
 rows-front zero xs = refl
 rows-front (suc k) nil = refl
-rows-front (suc k) (cons x xs) = ap (λ (l : List ℕ). rowOf x ∷ l) (rows-front k xs)
+rows-front (suc k) (cons x xs) = ap (λ (l : List ℕ). spotRow x ∷ l) (rows-front k xs)
 
 -- the spots in force in a body have the rows that are
-rows-body : (force : Spots) → rowsOf (forBody force) ≡ inBody (rowsOf force)
-rows-body force = rows-front (inForeign (length (rowsOf force))) force
+rows-body : (force : Spots) → spotRows (forBody force) ≡ inBody (spotRows force)
+rows-body force = rows-front (inForeign (length (spotRows force))) force
 
 before-front : (k row : ℕ) (xs : Spots) → Before row xs → Before row (front k xs)
 unfolding Before front
@@ -100,8 +100,8 @@ before-front (suc k) row nil b = tt
 before-front (suc k) row (cons x xs) b = (b .0, before-front k row xs (b .1))
 
 module _ (table : List ℕ) (n : ℕ) (s : List ℕ) where
-  goods-behind : (xs : Spots) (x : Spot) → Goods table n s xs → Good table n s x → Goods table n s (behind xs x)
-  unfolding Good behind
+  goods-behind : (xs : Spots) (x : Spot) → Goods table n s xs → Good table n s x → Goods table n s (added xs x)
+  unfolding Good added
   goods-behind nil x g h = (h, tt)
   goods-behind (cons y ys) x g h = (g .0, goods-behind ys x (g .1) h)
 
@@ -119,40 +119,40 @@ module _ (table : List ℕ) (n : ℕ) (s : List ℕ) where
 
   -- trees from `row` on, with the registry that `force` has
   held-good : (ts : Trees) (d : ℕ) (c : Children) (i row : ℕ) (force : Spots) (rest : List ℕ) → n ≤ lent table → isEntry c ≡ false → row + sizes ts ≤ n
-      → drop (wordsPerRow * row) table ≡ layouts ts false row (rowsOf force) ++ rest → Fines s d c (length (rowsOf force)) i ts → Before row force → Goods table n s force
-      → Goods table n s (held ts row force)
-  unfolding held Good layout size Fine
+      → drop (wordsPerRow * row) table ≡ layouts ts false row (spotRows force) ++ rest → ObeyAll s d c (length (spotRows force)) i ts → Before row force → Goods table n s force
+      → Goods table n s (siblings ts row force)
+  unfolding siblings Good layout size Obeys
   held-good none d c i row force rest room e b w f l g = tt
   held-good (more t ts) d c i row force rest room e b w f l g =
-      let R : List ℕ = rowsOf force in
+      let R : List ℕ = spotRows force in
       let L : List ℕ = layouts ts false (row + size t) R in
       let u : drop (wordsPerRow * row) table ≡ layout t row R ++ (L ++ rest) = w ∙ append-assoc (layout t row R) L rest in
       let v : drop (wordsPerRow * (row + size t)) table ≡ L ++ rest = rows-behind table row (size t) (layout t row R) (L ++ rest) (length-layout t row R) u in (
         (record { room = room; within = omega arith; rest = L ++ rest; words = u; right = record { key = isKey c i; levels = d; fine = f .0 } }, l, g),
         held-good ts d c (i + 1) (row + size t) force rest room e (omega arith) v
-            (subst (λ (x : Bool). Fines s d c (after x (length R)) (i + 1) ts) e (f .1)) (before-on row (row + size t) force (omega arith) l) g,
+            (subst (λ (x : Bool). ObeyAll s d c (after x (length R)) (i + 1) ts) e (f .1)) (before-on row (row + size t) force (omega arith) l) g,
       )
 
-  held-linked : (ts : Trees) (row : ℕ) (force : Spots) → Linked row (held ts row force)
-  unfolding held Linked
+  held-linked : (ts : Trees) (row : ℕ) (force : Spots) → Linked row (siblings ts row force)
+  unfolding siblings Linked
   held-linked none row force = tt
   held-linked (more t ts) row force = (refl, held-linked ts (row + size t) force)
 
   -- entries from `row` on, and the value behind them
   declared-good : (es : Trees) (t : Tree) (d count : ℕ) (row : ℕ) (force : Spots) (rest : List ℕ) → n ≤ lent table → row + (sizes es + size t) ≤ n
-      → drop (wordsPerRow * row) table ≡ (layouts es true row (rowsOf force) ++ layout t (row + sizes es) (entries es row (rowsOf force))) ++ rest
-      → Fines s d Entries (length (rowsOf force)) (length (rowsOf force)) es → Fine s d count t → length (rowsOf force) + many es ≡ count → Before row force → Goods table n s force
+      → drop (wordsPerRow * row) table ≡ (layouts es true row (spotRows force) ++ layout t (row + sizes es) (entries es row (spotRows force))) ++ rest
+      → ObeyAll s d Entries (length (spotRows force)) (length (spotRows force)) es → Obeys s d count t → length (spotRows force) + many es ≡ count → Before row force → Goods table n s force
       → Goods table n s (declared es t row force)
-  unfolding declared Good layout size Fine many entries
+  unfolding declared Good layout size Obeys many entries
   declared-good none t d count row force rest room b w f o num l g =
-      let R : List ℕ = rowsOf force in
+      let R : List ℕ = spotRows force in
       let z : row + 0 ≡ row = add-zero row in
       let k : count ≡ length R = omega arith in
-      ((record { room = room; within = omega arith; rest = rest; words = w ∙ ap (λ (x : ℕ). layout t x R ++ rest) z; right = record { key = false; levels = d; fine = subst (λ (x : ℕ). Fine s d x t) k o } }, l, g), tt)
+      ((record { room = room; within = omega arith; rest = rest; words = w ∙ ap (λ (x : ℕ). layout t x R ++ rest) z; right = record { key = false; levels = d; fine = subst (λ (x : ℕ). Obeys s d x t) k o } }, l, g), tt)
   declared-good (more e es) t d count row force rest room b w f o num l g =
-      let R : List ℕ = rowsOf force in
+      let R : List ℕ = spotRows force in
       let x : Spot = spot e row force in
-      let R′ : List ℕ = rowsOf (behind force x) in
+      let R′ : List ℕ = spotRows (added force x) in
       let r : R ++ (row ∷ []) ≡ R′ = sym (rows-behind-one force x) in
       let n′ : length R′ ≡ length R + 1 = ap length (sym r) ∙ length-append R (row ∷ []) in
       let E : List ℕ = layout e row R in
@@ -165,31 +165,31 @@ module _ (table : List ℕ) (n : ℕ) (s : List ℕ) where
       v ∙ ap₂ (λ (y : List ℕ) (i : ℕ). (layouts es true (row + size e) y ++ layout t i (entries es (row + size e) y)) ++ rest) r q in
       let own : Good table n s x = (record { room = room; within = omega arith; rest = (L ++ U) ++ rest; words = u; right = record { key = false; levels = d; fine = f .0 } }, l, g) in (
         own,
-        declared-good es t d count (row + size e) (behind force x) rest room (omega arith) v′
-            (subst (λ (k : ℕ). Fines s d Entries k k es) (sym n′) (f .1)) o (omega arith)
+        declared-good es t d count (row + size e) (added force x) rest room (omega arith) v′
+            (subst (λ (k : ℕ). ObeyAll s d Entries k k es) (sym n′) (f .1)) o (omega arith)
             (before-behind (row + size e) force x (before-on row (row + size e) force (omega arith) l) (omega arith)) (goods-behind force x g own),
       )
 
   declared-linked : (es : Trees) (t : Tree) (row : ℕ) (force : Spots) → Linked row (declared es t row force)
   unfolding declared Linked
   declared-linked none t row force = (refl, tt)
-  declared-linked (more e es) t row force = (refl, declared-linked es t (row + size e) (behind force (spot e row force)))
+  declared-linked (more e es) t row force = (refl, declared-linked es t (row + size e) (added force (spot e row force)))
 
   -- a foreign document's value
   body-good : (t : Tree) (d row : ℕ) (force : Spots) (rest : List ℕ) → n ≤ lent table → row + size t ≤ n
-      → drop (wordsPerRow * row) table ≡ layout t row (inBody (rowsOf force)) ++ rest → Fine s d (inForeign (length (rowsOf force))) t → Before row force → Goods table n s force
+      → drop (wordsPerRow * row) table ≡ layout t row (inBody (spotRows force)) ++ rest → Obeys s d (inForeign (length (spotRows force))) t → Before row force → Goods table n s force
       → Good table n s (spot t row (forBody force))
   unfolding Good
   body-good t d row force rest room b w f l g =
-      let k : ℕ = inForeign (length (rowsOf force)) in
-      let r : rowsOf (forBody force) ≡ inBody (rowsOf force) = rows-body force in
-      let m : length (rowsOf (forBody force)) ≡ k = ap length r ∙ length-body (rowsOf force) in (
+      let k : ℕ = inForeign (length (spotRows force)) in
+      let r : spotRows (forBody force) ≡ inBody (spotRows force) = rows-body force in
+      let m : length (spotRows (forBody force)) ≡ k = ap length r ∙ length-body (spotRows force) in (
         record {
           room = room;
           within = b;
           rest = rest;
           words = w ∙ ap (λ (x : List ℕ). layout t row x ++ rest) (sym r);
-          right = record { key = false; levels = d; fine = subst (λ (x : ℕ). Fine s d x t) (sym m) f };
+          right = record { key = false; levels = d; fine = subst (λ (x : ℕ). Obeys s d x t) (sym m) f };
         },
         before-front k row force l,
         goods-front k force g,
@@ -197,29 +197,29 @@ module _ (table : List ℕ) (n : ℕ) (s : List ℕ) where
 
   -- what stands below a good spot is good
   pub children-good : (x : Spot) → Good table n s x → Goods table n s (children x)
-  unfolding children Good Fine size Before
+  unfolding children Good Obeys size Before
   children-good (spot (leaf o) row force) g = tt
   children-good (spot (refer o) row force) g = tt
   children-good (spot (hold o ts) row force) g =
       let a = g .0 in
-      let f = value-fine s (length (rowsOf force)) (hold o ts) tt (a .right) in
+      let f = value-fine s (length (spotRows force)) (hold o ts) tt (a .right) in
       held-good ts (a .right .levels - 1) (childrenOf (f .1 .0)) 0 (row + 1) force (a .rest) (a .room) (no-entry (f .1 .0)) (omega (arith, a .within))
-      (below-at (hold o ts) row (rowsOf force) a) (f .1 .3) (before-on row (row + 1) force (omega arith) (g .1)) (g .2)
+      (below-at (hold o ts) row (spotRows force) a) (f .1 .3) (before-on row (row + 1) force (omega arith) (g .1)) (g .2)
   children-good (spot (declare o es t) row force) g =
       let a = g .0 in
-      let f = value-fine s (length (rowsOf force)) (declare o es t) tt (a .right) in
+      let f = value-fine s (length (spotRows force)) (declare o es t) tt (a .right) in
       declared-good es t (a .right .levels - 1) (o .w0) (row + 1) nil (a .rest) (a .room) (omega (arith, a .within))
-      (below-at (declare o es t) row (rowsOf force) a) (f .3) (f .4) (zero-add (many es) ∙ f .2) tt tt
+      (below-at (declare o es t) row (spotRows force) a) (f .3) (f .4) (zero-add (many es) ∙ f .2) tt tt
   children-good (spot (foreign o t) row force) g =
       let a = g .0 in
-      let f = value-fine s (length (rowsOf force)) (foreign o t) tt (a .right) in (
+      let f = value-fine s (length (spotRows force)) (foreign o t) tt (a .right) in (
         body-good t (a .right .levels - 1) (row + 1) force (a .rest) (a .room) (omega (arith, a .within))
-            (below-at (foreign o t) row (rowsOf force) a) (f .2) (before-on row (row + 1) force (omega arith) (g .1)) (g .2),
+            (below-at (foreign o t) row (spotRows force) a) (f .2) (before-on row (row + 1) force (omega arith) (g .1)) (g .2),
         tt,
       )
   children-good (spot (damaged o) row force) g = tt
 
-  pub children-linked : (x : Spot) → Linked (rowOf x + 1) (children x)
+  pub children-linked : (x : Spot) → Linked (spotRow x + 1) (children x)
   unfolding children Linked
   children-linked (spot (leaf o) row force) = tt
   children-linked (spot (refer o) row force) = tt

@@ -8,23 +8,22 @@ use lib.ListN.{length, getD}
 use lib.Dec.{leb, eqb}
 use borrow.Author.Tests.{lt-ltb, le-leb, eqb-true}
 use Rattle.wide.proofs.Ranks.{bool-case}
-use Rattle.rows.specs.Table.{Own, lent}
+use Rattle.rows.specs.Table.{Own, lent, aimed}
 use Rattle.rows.specs.Kinds.{kindFloat, kindText, kindBinary, kindKey}
 use Rattle.lists.proofs.Tests.{and-second}
 use Rattle.format.specs.Tree.{Tree, leaf, refer, hold, declare, foreign, damaged, size}
-use Rattle.format.specs.Layout.{aimed}
 use Rattle.format.proofs.Layouts.{ownAt}
 use Rattle.rules.specs.declared.shape.Shape.{Shape}
 use Rattle.rules.specs.declared.shape.Shape.the-variants.{Bad, Leaf, Refer, Hold, Declare, Whole, Damaged}
 use Rattle.rules.specs.Shape.{shapeOf, keyFits}
-use Rattle.rules.specs.Fine.{KeyFine, IfKey, Fine, Stands}
+use Rattle.rules.specs.Obeys.{KeyObeys, IfKey, Obeys, Stands}
 use Rattle.rules.proofs.Says.{HasInside, key-inside, float-inside, text-inside, binary-inside, key-bad, aimed-shape}
 use Rattle.walker.specs.declared.standing.Standing.{Standing}
 use Rattle.walker.specs.declared.step.Step.{Step}
 use Rattle.walker.specs.Walk.{standing, startOf}
 use Rattle.payload.specs.declared.part.Part.{Part}
 use Rattle.payload.specs.Payload.{hasPayload, part, payloadAt}
-use Rattle.walks.specs.Spots.{Spot, spot, Spots, nil, cons, treeOf, rowOf, rowsOf, Way, treeStep, boundOf, told, goOn, treeWalk, treeEnd, goTo, tableWalk, tableEnd, InTable, AllInTable, ownPart}
+use Rattle.walks.specs.Spots.{Spot, spot, Spots, nil, cons, spotTree, spotRow, spotRows, Way, treeStep, boundOf, stepFor, goOn, treeWalk, treeEnd, goTo, tableWalk, tableEnd, InTable, AllInTable, ownPart}
 use Rattle.walks.proofs.Good.{Right, Good, value-fine}
 use Rattle.walks.proofs.Walked.{Here, HereAll, step-right, step-here, bound-in, good-own, stood-row, root, root-here, steps-right}
 
@@ -54,8 +53,8 @@ module _ (s : List ℕ) where
       by-kind (HasInside (length s) o x) (o .kind) h (float-inside s o x e) (text-inside s o x e) (binary-inside s o x e)
       (λ q. absurd (subst Met (key-bad s o x e q) met))
 
-  leaf-inside : (d k : ℕ) (o : Own) (b : Bool) → IfKey b (KeyFine s (leaf o)) (Fine s d k (leaf o)) → hasPayload (o .kind) ≡ true → o .w0 + o .w1 ≤ length s
-  unfolding Fine
+  leaf-inside : (d k : ℕ) (o : Own) (b : Bool) → IfKey b (KeyObeys s (leaf o)) (Obeys s d k (leaf o)) → hasPayload (o .kind) ≡ true → o .w0 + o .w1 ≤ length s
+  unfolding Obeys
   leaf-inside d k o true f h = let q = f .is in let e : f .own ≡ o = cc in key-inside s o (subst (λ (p : Own). keyFits s p ≡ true) e (f .fits))
   leaf-inside d k o false f h = of-shape o Leaf (f .1) tt h
 
@@ -71,7 +70,7 @@ module _ (s : List ℕ) where
 
   -- a right tree's own row has the tree's payload
   top-part : (k : ℕ) (registry : List ℕ) (t : Tree) → Right s k t → partIs (ownAt t registry) ≡ ownPart t
-  unfolding Fine
+  unfolding Obeys
   top-part k registry (leaf o) r = leaf-part k o r
   top-part k registry (refer o) r =
       let e : ℕ = getD registry (o .w0) 0 in
@@ -83,16 +82,16 @@ module _ (s : List ℕ) where
 
 module _ (table : List ℕ) (n : ℕ) (s : List ℕ) where
   -- a good spot's payload is its tree's
-  pub payload-good : (x : Spot) → Good table n s x → payloadAt table (rowOf x) s ≡ ownPart (treeOf x)
+  pub payload-good : (x : Spot) → Good table n s x → payloadAt table (spotRow x) s ≡ ownPart (spotTree x)
   unfolding Good payloadAt
   payload-good (spot t row force) g =
-      let R : List ℕ = rowsOf force in
+      let R : List ℕ = spotRows force in
       let a = good-own table n s (spot t row force) g in
       rw (lt-ltb row (lent table) (omega (arith, a .1, a .2, a .3)), stood-row table n s t row R (g .0)) (top-part s (length R) R t (g .0 .right))
 
   -- ---- a walk
 
-  told-inside : (xs : Spots) → HereAll table n s xs → InTable n (told xs)
+  told-inside : (xs : Spots) → HereAll table n s xs → InTable n (stepFor xs)
   told-inside nil h = tt
   told-inside (cons x xs) h =
       let b = bound-in table n s xs x (h .good) (h .goods) (h .linked) in
@@ -116,21 +115,21 @@ module _ (table : List ℕ) (n : ℕ) (s : List ℕ) where
   -- the tree's spot is good, and the table's standing is on its row
   record EndsAt (ws : List Way) (at : Standing) (y : Spot) : Type 0 where
     pub good : Good table n s y
-    pub row : tableEnd table n ws at .row ≡ rowOf y
+    pub row : tableEnd table n ws at .row ≡ spotRow y
 
-  on-ends : (ws : List Way) (x : Spot) (xs : Spots) → Here table n s x xs → ((y : Spot) (ys : Spots) → Here table n s y ys → EndsAt ws (standing (rowOf y) (boundOf y ys)) (treeEnd ws y ys))
-      → (ys : Spots) → HereAll table n s ys → EndsAt ws (goTo (standing (rowOf x) (boundOf x xs)) (told ys)) (goOn ys x xs (treeEnd ws))
+  on-ends : (ws : List Way) (x : Spot) (xs : Spots) → Here table n s x xs → ((y : Spot) (ys : Spots) → Here table n s y ys → EndsAt ws (standing (spotRow y) (boundOf y ys)) (treeEnd ws y ys))
+      → (ys : Spots) → HereAll table n s ys → EndsAt ws (goTo (standing (spotRow x) (boundOf x xs)) (stepFor ys)) (goOn ys x xs (treeEnd ws))
   on-ends ws x xs h rest nil k = rest x xs h
   on-ends ws x xs h rest (cons y ys) k = rest y ys k
 
-  walk-ends : (ws : List Way) (x : Spot) (xs : Spots) → Here table n s x xs → EndsAt ws (standing (rowOf x) (boundOf x xs)) (treeEnd ws x xs)
+  walk-ends : (ws : List Way) (x : Spot) (xs : Spots) → Here table n s x xs → EndsAt ws (standing (spotRow x) (boundOf x xs)) (treeEnd ws x xs)
   unfolding treeEnd tableEnd
   walk-ends [] x xs h = record { good = h .good; row = refl }
   walk-ends (w ∷ ws) x xs h =
       let e = on-ends ws x xs h (λ y ys j. walk-ends ws y ys j) (treeStep w x xs) (step-here table n s w x xs h) in
       record {
         good = e .good;
-        row = ap (λ (z : Step). tableEnd table n ws (goTo (standing (rowOf x) (boundOf x xs)) z) .row) (step-right table n s w x xs h) ∙ e .row;
+        row = ap (λ (z : Step). tableEnd table n ws (goTo (standing (spotRow x) (boundOf x xs)) z) .row) (step-right table n s w x xs h) ∙ e .row;
       }
 
 -- ---- a table that passed the check
@@ -142,7 +141,7 @@ module _ (depth : ℕ) (table : List ℕ) (n : ℕ) (s : List ℕ) (t : Tree) (s
       subst (AllInTable n) (sym (steps-right depth table n s t st ws)) (walk-inside table n s ws (root depth table n s t st) nil (root-here depth table n s t st))
 
   -- the payload of the row where it ends is the tree's
-  pub payload-right : (ws : List Way) → payloadAt table (tableEnd table n ws (startOf n) .row) s ≡ ownPart (treeOf (treeEnd ws (spot t 0 nil) nil))
+  pub payload-right : (ws : List Way) → payloadAt table (tableEnd table n ws (startOf n) .row) s ≡ ownPart (spotTree (treeEnd ws (spot t 0 nil) nil))
   unfolding boundOf
   payload-right ws =
       let e = walk-ends table n s ws (spot t 0 nil) nil (root-here depth table n s t st) in

@@ -9,7 +9,7 @@ use Rattle.rows.specs.Kinds.{kindReference, kindDeclaration, kindKey}
 use Rattle.format.specs.Tree.{Tree, leaf, refer, hold, declare, foreign, damaged}
 use Rattle.format.proofs.Layouts.{ownAt}
 use Rattle.rules.specs.declared.shape.Shape.the-variants.{Leaf, Hold, Whole, Damaged}
-use Rattle.rules.specs.Fine.{KeyFine, IfKey, Fine}
+use Rattle.rules.specs.Obeys.{KeyObeys, IfKey, Obeys}
 use Rattle.rules.proofs.Says.{key-kind, refer-own, declare-own, reference-shape, declaration-shape}
 use Rattle.walks.proofs.Good.{Right}
 
@@ -28,13 +28,13 @@ KindIs (foreign o t) kind = Neither kind
 KindIs (damaged o) kind = Neither kind
 
 module _ (s : List ℕ) (k : ℕ) (registry : List ℕ) where
-  of-key : (t : Tree) → KeyFine s t → KindIs t (ownAt t registry .kind)
+  of-key : (t : Tree) → KeyObeys s t → KindIs t (ownAt t registry .kind)
   of-key t f =
       let e : f .own .kind ≡ kindKey = key-kind s (f .own) (f .fits) in
       rw (f .is) (record { no-reference = λ q. absurd (omega (arith, sym e ∙ q)); no-declaration = λ q. absurd (omega (arith, sym e ∙ q)) })
 
-  of-value : (d : ℕ) (t : Tree) → Fine s d k t → KindIs t (ownAt t registry .kind)
-  unfolding Fine
+  of-value : (d : ℕ) (t : Tree) → Obeys s d k t → KindIs t (ownAt t registry .kind)
+  unfolding Obeys
   of-value d (leaf o) f = record { no-reference = reference-shape s o Leaf (f .1); no-declaration = declaration-shape s o Leaf (f .1) }
   of-value d (refer o) f = ap (λ (p : Own). p .kind) (refer-own s o (f .1))
   of-value d (hold o ts) f =
@@ -46,6 +46,6 @@ module _ (s : List ℕ) (k : ℕ) (registry : List ℕ) where
   pub kind-is : (t : Tree) → Right s k t → KindIs t (ownAt t registry .kind)
   kind-is t r = of (r .key) (r .fine)
     where
-      of : (b : Bool) → IfKey b (KeyFine s t) (Fine s (r .levels) k t) → KindIs t (ownAt t registry .kind)
+      of : (b : Bool) → IfKey b (KeyObeys s t) (Obeys s (r .levels) k t) → KindIs t (ownAt t registry .kind)
       of true f = of-key t f
       of false f = of-value (r .levels) t f

@@ -22,23 +22,23 @@ mutual
     nil : Spots
     cons : (first : Spot) → (rest : Spots) → Spots
 
-abbrev pub treeOf : Spot → Tree
-treeOf (spot t row force) = t
+abbrev pub spotTree : Spot → Tree
+spotTree (spot t row force) = t
 
-abbrev pub rowOf : Spot → ℕ
-rowOf (spot t row force) = row
+abbrev pub spotRow : Spot → ℕ
+spotRow (spot t row force) = row
 
-abbrev pub endOf : Spot → ℕ
-endOf (spot t row force) = row + size t
+abbrev pub spotEnd : Spot → ℕ
+spotEnd (spot t row force) = row + size t
 
 -- the rows of the entries in force
-abbrev pub rowsOf : Spots → List ℕ
-rowsOf nil = []
-rowsOf (cons x xs) = rowOf x ∷ rowsOf xs
+abbrev pub spotRows : Spots → List ℕ
+spotRows nil = []
+spotRows (cons x xs) = spotRow x ∷ spotRows xs
 
-unfoldable pub behind : Spots → Spot → Spots
-behind nil x = cons x nil
-behind (cons y ys) x = cons y (behind ys x)
+unfoldable pub added : Spots → Spot → Spots
+added nil x = cons x nil
+added (cons y ys) x = cons y (added ys x)
 
 -- "w0 number": the entry of that number
 unfoldable pub entry : Spots → ℕ → Spots
@@ -54,25 +54,25 @@ front (suc k) (cons x xs) = cons x (front k xs)
 
 -- "A foreign body is read as a document of its own, under the registry in force around it.": the entries in force in it, of those around it
 abbrev pub forBody : Spots → Spots
-forBody force = front (inForeign (length (rowsOf force))) force
+forBody force = front (inForeign (length (spotRows force))) force
 
 -- ---- children
 
 -- trees one behind the other from `row` on, with the same entries in force
-unfoldable pub held : Trees → ℕ → Spots → Spots
-held none row force = nil
-held (more t ts) row force = cons (spot t row force) (held ts (row + size t) force)
+unfoldable pub siblings : Trees → ℕ → Spots → Spots
+siblings none row force = nil
+siblings (more t ts) row force = cons (spot t row force) (siblings ts (row + size t) force)
 
 -- "While entry i of a declaration is read, entries 0..i-1 of that declaration are in force and nothing outside it; in its value position all n
 -- are, and they alone": the entries from `row` on and the value t, where `force` has the entries before them
 unfoldable pub declared : Trees → Tree → ℕ → Spots → Spots
 declared none t row force = cons (spot t row force) nil
-declared (more e es) t row force = cons (spot e row force) (declared es t (row + size e) (behind force (spot e row force)))
+declared (more e es) t row force = cons (spot e row force) (declared es t (row + size e) (added force (spot e row force)))
 
 unfoldable pub children : Spot → Spots
 children (spot (leaf o) row force) = nil
 children (spot (refer o) row force) = nil
-children (spot (hold o ts) row force) = held ts (row + 1) force
+children (spot (hold o ts) row force) = siblings ts (row + 1) force
 children (spot (declare o es t) row force) = declared es t (row + 1) nil
 children (spot (foreign o t) row force) = cons (spot t (row + 1) (forBody force)) nil
 children (spot (damaged o) row force) = nil
@@ -83,28 +83,28 @@ pub data Way : Type 0 where
   inward onward alongside : Way
 
 -- "Along: a reference's entry"
-unfoldable pub referred : Spot → Spots
-referred (spot (leaf o) row force) = nil
-referred (spot (refer o) row force) = entry force (o .w0)
-referred (spot (hold o ts) row force) = nil
-referred (spot (declare o es t) row force) = nil
-referred (spot (foreign o t) row force) = nil
-referred (spot (damaged o) row force) = nil
+unfoldable pub entryOf : Spot → Spots
+entryOf (spot (leaf o) row force) = nil
+entryOf (spot (refer o) row force) = entry force (o .w0)
+entryOf (spot (hold o ts) row force) = nil
+entryOf (spot (declare o es t) row force) = nil
+entryOf (spot (foreign o t) row force) = nil
+entryOf (spot (damaged o) row force) = nil
 
 unfoldable pub treeStep : Way → Spot → Spots → Spots
 treeStep inward x xs = children x
 treeStep onward x xs = xs
-treeStep alongside x xs = referred x
+treeStep alongside x xs = entryOf x
 
 -- "the end of the holder around it": the end of the last tree under it
 unfoldable pub boundOf : Spot → Spots → ℕ
-boundOf x nil = endOf x
+boundOf x nil = spotEnd x
 boundOf x (cons y ys) = boundOf y ys
 
 -- the answer for what was found: a row and its bound, or "No such row: 14"
-abbrev pub told : Spots → Step
-told nil = NoStep
-told (cons x xs) = To (rowOf x) (boundOf x xs)
+abbrev pub stepFor : Spots → Step
+stepFor nil = NoStep
+stepFor (cons x xs) = To (spotRow x) (boundOf x xs)
 
 -- "the standing asked from stays good, and a walk goes on from there"
 abbrev pub goOn : {A : Type 0} → Spots → Spot → Spots → (Spot → Spots → A) → A
@@ -114,7 +114,7 @@ goOn (cons y ys) x xs rest = rest y ys
 -- the answers of a walk
 unfoldable pub treeWalk : List Way → Spot → Spots → List Step
 treeWalk [] x xs = []
-treeWalk (w ∷ ws) x xs = told (treeStep w x xs) ∷ goOn (treeStep w x xs) x xs (treeWalk ws)
+treeWalk (w ∷ ws) x xs = stepFor (treeStep w x xs) ∷ goOn (treeStep w x xs) x xs (treeWalk ws)
 
 -- where it ends
 unfoldable pub treeEnd : List Way → Spot → Spots → Spot

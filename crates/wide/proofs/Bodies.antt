@@ -11,7 +11,7 @@ use lib.Dec.{leb}
 use borrow.Author.Tests.{le-leb, lt-leb}
 use Rattle.wide.specs.declared.wide.Wide.{Wide}
 use Rattle.wide.specs.Number.{number, bytesOf}
-use Rattle.wide.specs.Words.{whole, words, valueOf, wideOf}
+use Rattle.wide.specs.Words.{wideEnd, words, valueOf, wideOf}
 use Rattle.wide.specs.Body.{extended, negative, bodyValue}
 use Rattle.wide.proofs.Numbers.{either, onto, Bytes, pow-step, pow-pos256, onto-number, onto-zero, bytes-all, bytes-take, bytes-drop, bytes-low, bytes-split}
 use Rattle.wide.proofs.Wides.{Words, wide-more}
@@ -49,28 +49,28 @@ top-bit bs k h e =
     (λ l. let l′ : t ≤ 127 = omega arith in
     lt-leb (256 ^ length bs) (2 * number bs) (omega (arith, mul-le-mul-right p l′)) ∙ sym (lt-leb 128 t l))
 
-pub pow-whole : (k : ℕ) → k ≤ 16 → 256 ^ k ≤ whole
-unfolding whole
+pub pow-whole : (k : ℕ) → k ≤ 16 → 256 ^ k ≤ wideEnd
+unfolding wideEnd
 pow-whole k h = pow-le-pow-right (zero-lt-suc 255) h
 
 -- ones above a body, or none, are what its extension has
-fill-true : (p n : ℕ) → 0 < p → p ≤ whole → n + (whole - 1) * p ≡ n + (whole - p) + whole * (p - 1)
+fill-true : (p n : ℕ) → 0 < p → p ≤ wideEnd → n + (wideEnd - 1) * p ≡ n + (wideEnd - p) + wideEnd * (p - 1)
 fill-true p n h k =
-    let a : p * (whole - 1) ≡ p * whole - p * 1 = mul-sub p whole 1 in
-    let b : whole * (p - 1) ≡ whole * p - whole * 1 = mul-sub whole p 1 in
-    omega (arith, mul-comm (whole - 1) p, mul-comm p whole, mul-le-mul-left whole h, mul-le-mul-left p k, mul-le-mul-right p (one-le-whole h k))
+    let a : p * (wideEnd - 1) ≡ p * wideEnd - p * 1 = mul-sub p wideEnd 1 in
+    let b : wideEnd * (p - 1) ≡ wideEnd * p - wideEnd * 1 = mul-sub wideEnd p 1 in
+    omega (arith, mul-comm (wideEnd - 1) p, mul-comm p wideEnd, mul-le-mul-left wideEnd h, mul-le-mul-left p k, mul-le-mul-right p (one-le-whole h k))
   where
-    one-le-whole : 0 < p → p ≤ whole → 1 ≤ whole
+    one-le-whole : 0 < p → p ≤ wideEnd → 1 ≤ wideEnd
     one-le-whole x y = omega arith
 
 pub filled : (neg : Bool) (bs : List ℕ) → length bs ≤ 16 → wideOf (onto (extended neg 0 0) bs) ≡ wideOf (extended neg (length bs) (number bs))
 filled false bs h = ap wideOf (onto-zero bs)
 filled true bs h =
     let p : ℕ = 256 ^ length bs in
-    let e : extended true 0 0 ≡ whole - 1 = omega arith in
+    let e : extended true 0 0 ≡ wideEnd - 1 = omega arith in
     ap (λ (f : ℕ). wideOf (onto f bs)) e
-    ∙ ap wideOf (onto-number (whole - 1) bs ∙ fill-true p (number bs) (pow-pos256 (length bs)) (pow-whole (length bs) h))
-    ∙ wide-more (number bs + (whole - p)) (p - 1)
+    ∙ ap wideOf (onto-number (wideEnd - 1) bs ∙ fill-true p (number bs) (pow-pos256 (length bs)) (pow-whole (length bs) h))
+    ∙ wide-more (number bs + (wideEnd - p)) (p - 1)
 
 sign : (signed : Bool) (bs : List ℕ) (k : ℕ) → Bytes bs → length bs ≡ suc k → negative signed (length bs) (number bs) ≡ (signed && leb 128 (getD bs k 0))
 sign false bs k h e = refl

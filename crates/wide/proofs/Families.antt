@@ -11,11 +11,11 @@ use lib.Seq.{take-at, length-take-le}
 use lib.Dec.{leb, ltb, eqb}
 use borrow.Author.Tests.{le-leb, lt-leb, lt-ltb, le-ltb, eq-eqb, leb-true, ltb-true}
 use Rattle.wide.specs.Number.{bytesOf}
-use Rattle.wide.specs.Words.{whole}
+use Rattle.wide.specs.Words.{wideEnd}
 use Rattle.wide.specs.Body.{sizeAt, bodyValue, rank}
 use Rattle.wide.specs.Family.{Run, behind, hasByte, numberOf, hasNumber, byteOf, Family, Coded, is, short, other, longer, body, unmarked, marked, coded, unmarkedForm, form}
 use Rattle.wide.proofs.Numbers.{either, Bytes, length-bytesOf, bytes-bytesOf, bytes-take, bytes-drop}
-use Rattle.wide.proofs.Ranks.{bool-case, reach, Held, body-held, rank-lt, rank-least, rank-reads, size-mono, size-high}
+use Rattle.wide.proofs.Ranks.{bool-case, reach, Kept, body-held, rank-lt, rank-least, rank-reads, size-mono, size-high}
 use Rattle.wide.proofs.Runs.{Valid, behind-move, number-has, number-small, byte-small, byte-has, byte-number}
 
 pub cond-yes : {A : Type 0} (b : Bool) (x y : A) → b ≡ true → cond b x y ≡ x
@@ -40,7 +40,7 @@ pub record Sound (F : Family) : Type 0 where
 
 -- what is read of bytes is a number of 128 bits, and no fewer bytes say it
 pub record Reads (F : Family) (s : List ℕ) (n used : ℕ) : Type 0 where
-  pub small : n < whole
+  pub small : n < wideEnd
   pub least : length (form F n) ≤ used
 
 -- ---- the parts of a form
@@ -187,7 +187,7 @@ module _ (F : Family) (good : Sound F) where
 
   -- ---- what is written reads back
 
-  module _ (n : ℕ) (small : n < whole) where
+  module _ (n : ℕ) (small : n < wideEnd) where
     round-body : (rest : List ℕ)
         → unmarked F (((F .first + rank (F .signed) n) ∷ bytesOf (sizeAt (rank (F .signed) n)) n) ++ rest) ≡ is n (suc (sizeAt (rank (F .signed) n)))
     unfolding unmarked
@@ -243,7 +243,7 @@ module _ (F : Family) (good : Sound F) where
 
   -- of what stands behind the marker
   record Behind (s : List ℕ) (n used : ℕ) : Type 0 where
-    small : n < whole
+    small : n < wideEnd
     least : length (unmarkedForm F n) ≤ used
 
   read-direct : (b : ℕ) (s : List ℕ) (n used : ℕ) → hasByte (F .direct) b ≡ true → is (numberOf (F .direct) b) 1 ≡ is n used → Behind (b ∷ s) n used
@@ -252,7 +252,7 @@ module _ (F : Family) (good : Sound F) where
       let v : numberOf (F .direct) b ≡ n = cc in
       let h : hasNumber (F .direct) n ≡ true = ap (hasNumber (F .direct)) (sym v) ∙ number-has (F .direct) (good .direct-run) b ∙ t in
       record {
-        small = subst (λ (x : ℕ). x < whole) v (number-small (F .direct) (good .direct-run) b);
+        small = subst (λ (x : ℕ). x < wideEnd) v (number-small (F .direct) (good .direct-run) b);
         least = omega (arith, ap length (direct-form n h));
       }
 
@@ -266,8 +266,8 @@ module _ (F : Family) (good : Sound F) where
       let u : suc k ≡ used = cc in
       let v : bodyValue (F .signed) bs ≡ n = cc in
       let d : length bs ≡ k = length-take-le k s c in
-      let w : Held (F .signed) (length bs) (bodyValue (F .signed) bs) = body-held (F .signed) bs (bytes-take k s h) (omega (arith, size-high j l)) in
-      let m : n < whole = subst (λ (x : ℕ). x < whole) v (w .small) in
+      let w : Kept (F .signed) (length bs) (bodyValue (F .signed) bs) = body-held (F .signed) bs (bytes-take k s h) (omega (arith, size-high j l)) in
+      let m : n < wideEnd = subst (λ (x : ℕ). x < wideEnd) v (w .small) in
       let r : reach (F .signed) n < 256 ^ k =
       subst (λ (x : ℕ). reach (F .signed) n < 256 ^ x) d (subst (λ (x : ℕ). reach (F .signed) x < 256 ^ length bs) v (w .near)) in
       record {
@@ -304,7 +304,7 @@ module _ (F : Family) (good : Sound F) where
       let v : numberOf (F .alone) b ≡ n = cc in
       let h : hasNumber (F .alone) n ≡ true = ap (hasNumber (F .alone)) (sym v) ∙ number-has (F .alone) (good .alone-run) b ∙ t in
       record {
-        small = subst (λ (x : ℕ). x < whole) v (number-small (F .alone) (good .alone-run) b);
+        small = subst (λ (x : ℕ). x < wideEnd) v (number-small (F .alone) (good .alone-run) b);
         least = omega (arith, ap length (alone-form n h));
       }
 
@@ -318,7 +318,7 @@ module _ (F : Family) (good : Sound F) where
       (λ t. read-marked (b ∷ s) n used h (sym (cond-no (hasByte (F .alone) b) (is (numberOf (F .alone) b) 1) _ t) ∙ e))
 
   -- a form is bytes
-  pub form-bytes : (n : ℕ) → n < whole → Bytes (form F n)
+  pub form-bytes : (n : ℕ) → n < wideEnd → Bytes (form F n)
   form-bytes n small =
       bool-case (hasNumber (F .alone) n)
       (λ e. subst Bytes (sym (alone-form n e)) (byte-small (F .alone) (good .alone-run) n, tt))

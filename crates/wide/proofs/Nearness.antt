@@ -8,7 +8,7 @@ use native.Mathlib.Omega.{arith}
 use lib.Dec.{ltb, eqb, lit≤}
 use borrow.Author.Tests.{lt-ltb, le-ltb, eq-eqb, ne-eqb, eqb-true, eqb-false}
 use Rattle.wide.specs.declared.wide.Wide.{Wide}
-use Rattle.wide.specs.Words.{whole, words, valueOf, wideOf}
+use Rattle.wide.specs.Words.{wideEnd, words, valueOf, wideOf}
 use Rattle.wide.specs.Family.{Run, behind, hasNumber}
 use Rattle.wide.proofs.Numbers.{either}
 use Rattle.wide.proofs.Wides.{Words, whole-words, whole-pos, wide-value, value-wide, wide-more, carry-lt}
@@ -22,26 +22,26 @@ back-again : (k m : ℕ) → k ≤ m → m - (m - k) ≡ k
 back-again k m h = omega arith
 
 -- from 0 up
-pub behind-up : (below n : ℕ) → below ≤ 256 → n + below < whole → behind whole (whole - below) n ≡ n + below
+pub behind-up : (below n : ℕ) → below ≤ 256 → n + below < wideEnd → behind wideEnd (wideEnd - below) n ≡ n + below
 unfolding behind
-behind-up below n b h = ap (λ (x : ℕ). (n + x) % whole) (back-again below whole (omega (arith, bytes-whole))) ∙ mod-eq-of-lt h
+behind-up below n b h = ap (λ (x : ℕ). (n + x) % wideEnd) (back-again below wideEnd (omega (arith, bytes-whole))) ∙ mod-eq-of-lt h
 
 -- below 0
-pub behind-round : (below n : ℕ) → below ≤ 256 → n < whole → whole ≤ n + below → behind whole (whole - below) n ≡ n + below - whole
+pub behind-round : (below n : ℕ) → below ≤ 256 → n < wideEnd → wideEnd ≤ n + below → behind wideEnd (wideEnd - below) n ≡ n + below - wideEnd
 unfolding behind
 behind-round below n b h l =
-    let e : n + below ≡ (n + below - whole) + whole = omega arith in
-    let m : n + below - whole < whole = omega (arith, bytes-whole) in
-    ap (λ (x : ℕ). (n + x) % whole) (back-again below whole (omega (arith, bytes-whole)))
-    ∙ ap (λ (x : ℕ). x % whole) e ∙ add-mod-right (n + below - whole) whole ∙ mod-eq-of-lt m
+    let e : n + below ≡ (n + below - wideEnd) + wideEnd = omega arith in
+    let m : n + below - wideEnd < wideEnd = omega (arith, bytes-whole) in
+    ap (λ (x : ℕ). (n + x) % wideEnd) (back-again below wideEnd (omega (arith, bytes-whole)))
+    ∙ ap (λ (x : ℕ). x % wideEnd) e ∙ add-mod-right (n + below - wideEnd) wideEnd ∙ mod-eq-of-lt m
 
 -- behind 0, which is -0, a number stands as far as it says
-pub behind-zero : (n : ℕ) → behind whole (whole - 0) n ≡ behind whole 0 n
+pub behind-zero : (n : ℕ) → behind wideEnd (wideEnd - 0) n ≡ behind wideEnd 0 n
 unfolding behind
 behind-zero n =
-    let e : n + (whole - (whole - 0)) ≡ n = omega arith in
-    let f : n + (whole - 0) ≡ n + whole = omega arith in
-    ap (λ (x : ℕ). x % whole) e ∙ sym (ap (λ (x : ℕ). x % whole) f ∙ add-mod-right n whole)
+    let e : n + (wideEnd - (wideEnd - 0)) ≡ n = omega arith in
+    let f : n + (wideEnd - 0) ≡ n + wideEnd = omega arith in
+    ap (λ (x : ℕ). x % wideEnd) e ∙ sym (ap (λ (x : ℕ). x % wideEnd) f ∙ add-mod-right n wideEnd)
 
 -- ---- four words whose high three are all the same
 
@@ -84,7 +84,7 @@ ones-step w m k a b = omega arith
 top-step : (w m k : ℕ) → m + 1 ≡ k → w + 2 ^ 32 * m + 2 ^ 32 ≡ 2 ^ 32 * k + w
 top-step w m k h = omega arith
 
-value-ones : (w : Wide) → w .w1 ≡ 4294967295 → w .w2 ≡ 4294967295 → w .w3 ≡ 4294967295 → valueOf w + 2 ^ 32 ≡ whole + w .w0
+value-ones : (w : Wide) → w .w1 ≡ 4294967295 → w .w2 ≡ 4294967295 → w .w3 ≡ 4294967295 → valueOf w + 2 ^ 32 ≡ wideEnd + w .w0
 value-ones w a b c =
     let e3 : w .w3 + 1 ≡ 2 ^ 32 = omega arith in
     top-step (w .w0) _ _ (ones-step (w .w1) _ _ a (ones-step (w .w2) (w .w3) (2 ^ 32) b e3)) ∙ ap (λ (x : ℕ). x + w .w0) (sym whole-words)
@@ -102,7 +102,7 @@ less-top w m k h l = omega arith
 not-ones : (x : ℕ) → x < 2 ^ 32 → (x ≡ 4294967295 → ⊥) → x + 1 < 2 ^ 32
 not-ones x h l = omega arith
 
-value-less : (w : Wide) → Words w → (eqb (w .w1) 4294967295 && (eqb (w .w2) 4294967295 && eqb (w .w3) 4294967295)) ≡ false → valueOf w + 2 ^ 32 < whole
+value-less : (w : Wide) → Words w → (eqb (w .w1) 4294967295 && (eqb (w .w2) 4294967295 && eqb (w .w3) 4294967295)) ≡ false → valueOf w + 2 ^ 32 < wideEnd
 value-less w h e =
     subst (λ (k : ℕ). valueOf w + 2 ^ 32 < k) (sym whole-words)
     (less-top (w .w0) _ _ (h .f0)
@@ -118,8 +118,8 @@ some-above w e =
 
 -- ---- the tests of the code
 
-word-whole : 2 ^ 32 + 2 ^ 32 ≤ whole
-unfolding whole
+word-whole : 2 ^ 32 + 2 ^ 32 ≤ wideEnd
+unfolding wideEnd
 word-whole = lit≤ tt
 
 -- two tests that hold of the same numbers
@@ -127,12 +127,12 @@ same-test : (a b c d : ℕ) → (a < b → c < d) → (b ≤ a → d ≤ c) → 
 same-test a b c d f g = either b a (λ l. le-ltb a b l ∙ sym (le-ltb c d (g l))) (λ l. lt-ltb a b l ∙ sym (lt-ltb c d (f l)))
 
 -- the numbers of the last 2 ^ 32
-top-test : (n x below up : ℕ) → n + 2 ^ 32 ≡ whole + x → x < 2 ^ 32 → below ≤ 256 → up ≤ 256
-    → ltb (4294967295 - x) below ≡ ltb (behind whole (whole - below) n) (below + up)
+top-test : (n x below up : ℕ) → n + 2 ^ 32 ≡ wideEnd + x → x < 2 ^ 32 → below ≤ 256 → up ≤ 256
+    → ltb (4294967295 - x) below ≡ ltb (behind wideEnd (wideEnd - below) n) (below + up)
 top-test n x below up e h b u =
-    either whole (n + below)
+    either wideEnd (n + below)
     (λ l. lt-ltb (4294967295 - x) below (omega arith)
-    ∙ sym (ap (λ (y : ℕ). ltb y (below + up)) (behind-round below n b (omega arith) l) ∙ lt-ltb (n + below - whole) (below + up) (omega arith)))
+    ∙ sym (ap (λ (y : ℕ). ltb y (below + up)) (behind-round below n b (omega arith) l) ∙ lt-ltb (n + below - wideEnd) (below + up) (omega arith)))
     (λ l. le-ltb (4294967295 - x) below (omega arith)
     ∙ sym (ap (λ (y : ℕ). ltb y (below + up)) (behind-up below n b l) ∙ le-ltb (n + below) (below + up) (omega (arith, word-whole))))
 
@@ -144,14 +144,14 @@ module _ (w : Wide) (h : Words w) (below up : ℕ) (b : below ≤ 256) (u : up �
   onesAbove = eqb (w .w1) 4294967295 && (eqb (w .w2) 4294967295 && eqb (w .w3) 4294967295)
 
   abbrev isNear : Bool
-  isNear = ltb (behind whole (whole - below) (valueOf w)) (below + up)
+  isNear = ltb (behind wideEnd (wideEnd - below) (valueOf w)) (below + up)
 
   near-up : (r : Bool) → r ≡ noneAbove → r ≡ true → ltb (w .w0) up ≡ isNear
   near-up r p q =
       let z = above-yes (w .w1) (w .w2) (w .w3) 0 (sym p ∙ q) in
       let v : valueOf w ≡ w .w0 = value-low w (z .0) (z .1) (z .2) in
       same-test (w .w0) up (w .w0 + below) (below + up) (λ l. omega arith) (λ l. omega arith)
-      ∙ sym (ap (λ (x : ℕ). ltb x (below + up)) (ap (behind whole (whole - below)) v ∙ behind-up below (w .w0) b (omega (arith, h .f0, word-whole))))
+      ∙ sym (ap (λ (x : ℕ). ltb x (below + up)) (ap (behind wideEnd (wideEnd - below)) v ∙ behind-up below (w .w0) b (omega (arith, h .f0, word-whole))))
 
   near-below : (r : Bool) → r ≡ onesAbove → r ≡ true → ltb (4294967295 - w .w0) below ≡ isNear
   near-below r p q =
@@ -161,7 +161,7 @@ module _ (w : Wide) (h : Words w) (below up : ℕ) (b : below ≤ 256) (u : up �
   near-none : (q r : Bool) → q ≡ noneAbove → q ≡ false → r ≡ onesAbove → r ≡ false → false ≡ isNear
   near-none q r a c d e =
       let m : 2 ^ 32 ≤ valueOf w = some-above w (sym a ∙ c) in
-      let l : valueOf w + 2 ^ 32 < whole = value-less w h (sym d ∙ e) in
+      let l : valueOf w + 2 ^ 32 < wideEnd = value-less w h (sym d ∙ e) in
       sym (ap (λ (x : ℕ). ltb x (below + up)) (behind-up below (valueOf w) b (omega arith)) ∙ le-ltb (valueOf w + below) (below + up) (omega arith))
 
   -- an answer that is right whatever stands above the low word
@@ -198,22 +198,22 @@ wide-low n h =
     let k : Words w = record { f0 = h; f1 = omega arith; f2 = omega arith; f3 = omega arith } in
     sym (wide-value w k) ∙ ap wideOf (value-low w refl refl refl)
 
-far-up : (below far : ℕ) → below ≤ 256 → far ≤ 256 → below ≤ far → (whole - below + far) % whole ≡ far - below
+far-up : (below far : ℕ) → below ≤ 256 → far ≤ 256 → below ≤ far → (wideEnd - below + far) % wideEnd ≡ far - below
 far-up below far b f l =
-    let e : whole - below + far ≡ far - below + whole = omega (arith, bytes-whole) in
-    ap (λ (x : ℕ). x % whole) e ∙ add-mod-right (far - below) whole ∙ mod-eq-of-lt (omega (arith, word-whole))
+    let e : wideEnd - below + far ≡ far - below + wideEnd = omega (arith, bytes-whole) in
+    ap (λ (x : ℕ). x % wideEnd) e ∙ add-mod-right (far - below) wideEnd ∙ mod-eq-of-lt (omega (arith, word-whole))
 
-far-below : (below far n : ℕ) → below ≤ 256 → far < below → n + 2 ^ 32 ≡ whole + (4294967295 - (below - far - 1)) → n ≡ (whole - below + far) % whole
+far-below : (below far n : ℕ) → below ≤ 256 → far < below → n + 2 ^ 32 ≡ wideEnd + (4294967295 - (below - far - 1)) → n ≡ (wideEnd - below + far) % wideEnd
 far-below below far n b l e =
-    let m : whole - below + far < whole = omega (arith, bytes-whole) in
-    let d : n ≡ whole - below + far = omega (arith, bytes-whole) in
+    let m : wideEnd - below + far < wideEnd = omega (arith, bytes-whole) in
+    let d : n ≡ wideEnd - below + far = omega (arith, bytes-whole) in
     d ∙ sym (mod-eq-of-lt m)
 
 module _ (below far : ℕ) (b : below ≤ 256) (f : far ≤ 256) where
-  pub words-up : below ≤ far → words (far - below) 0 0 0 ≡ wideOf ((whole - below + far) % whole)
+  pub words-up : below ≤ far → words (far - below) 0 0 0 ≡ wideOf ((wideEnd - below + far) % wideEnd)
   words-up l = wide-low (far - below) (omega arith) ∙ ap wideOf (sym (far-up below far b f l))
 
-  pub words-below : far < below → words (4294967295 - (below - far - 1)) 4294967295 4294967295 4294967295 ≡ wideOf ((whole - below + far) % whole)
+  pub words-below : far < below → words (4294967295 - (below - far - 1)) 4294967295 4294967295 4294967295 ≡ wideOf ((wideEnd - below + far) % wideEnd)
   words-below l =
       let w : Wide = words (4294967295 - (below - far - 1)) 4294967295 4294967295 4294967295 in
       let k : Words w = record { f0 = omega arith; f1 = omega arith; f2 = omega arith; f3 = omega arith } in
@@ -222,13 +222,13 @@ module _ (below far : ℕ) (b : below ≤ 256) (f : far ≤ 256) where
 -- ---- a number and its four words are near alike
 
 -- the words of a number have its rest
-pub value-rest : (n : ℕ) → valueOf (wideOf n) ≡ n % whole
+pub value-rest : (n : ℕ) → valueOf (wideOf n) ≡ n % wideEnd
 value-rest n =
-    let e : n ≡ n % whole + whole * (n / whole) = omega (arith, div-add-mod' n whole, mul-comm whole (n / whole)) in
+    let e : n ≡ n % wideEnd + wideEnd * (n / wideEnd) = omega (arith, div-add-mod' n wideEnd, mul-comm wideEnd (n / wideEnd)) in
     ap (λ (x : ℕ). valueOf (wideOf x)) e
-    ∙ ap valueOf (wide-more (n % whole) (n / whole))
-    ∙ value-wide (n % whole) (mod-lt n whole-pos)
+    ∙ ap valueOf (wide-more (n % wideEnd) (n / wideEnd))
+    ∙ value-wide (n % wideEnd) (mod-lt n whole-pos)
 
 pub has-wide : (r : Run) (n : ℕ) → hasNumber r (valueOf (wideOf n)) ≡ hasNumber r n
 unfolding behind
-has-wide r n = ap (λ (x : ℕ). ltb (behind whole (r .from) x) (r .count)) (value-rest n) ∙ ap (λ (x : ℕ). ltb x (r .count)) (mod-add-mod n whole (whole - r .from))
+has-wide r n = ap (λ (x : ℕ). ltb (behind wideEnd (r .from) x) (r .count)) (value-rest n) ∙ ap (λ (x : ℕ). ltb x (r .count)) (mod-add-mod n wideEnd (wideEnd - r .from))

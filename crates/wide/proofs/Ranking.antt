@@ -6,7 +6,7 @@ use native.Mathlib.Omega.{arith}
 use lib.Dec.{leb, ltb, lit≤}
 use borrow.Author.Tests.{lt-ltb, le-ltb, le-leb, lt-leb}
 use Rattle.wide.specs.declared.wide.Wide.{Wide}
-use Rattle.wide.specs.Words.{whole, valueOf, wideOf}
+use Rattle.wide.specs.Words.{wideEnd, valueOf, wideOf}
 use Rattle.wide.specs.Body.{sizeAt, rank}
 use Rattle.wide.proofs.Numbers.{either}
 use Rattle.wide.proofs.Wides.{Words, carry-lt, value-lt, value-wide}
@@ -41,7 +41,7 @@ rank-counts n f =
     (λ b. sum (over-yes _ n a) (over-no _ n b) (over-no _ n (omega arith)) (over-no _ n (omega arith)) (over-no _ n (omega arith)) ∙ at 0 (omega arith) a b))
     (λ a. sum (over-no _ n a) (over-no _ n (omega arith)) (over-no _ n (omega arith)) (over-no _ n (omega arith)) (over-no _ n (omega arith)) ∙ sym (rank-zero false n small a))
   where
-    small : n < whole
+    small : n < wideEnd
     small = omega (arith, pow-whole 8 (lit≤ tt))
 
     at : (j : ℕ) → suc j < 8 → 256 ^ sizeAt j ≤ n → n < 256 ^ sizeAt (suc j) → suc j ≡ rank false n
@@ -65,7 +65,7 @@ module _ (w : Wide) (h : Words w) where
   v1 = w .w1 + 2 ^ 32 * v2
 
   at-seven : (w .w3 ≡ 0 → ⊥) → 7 ≡ rank false (valueOf w)
-  unfolding whole
+  unfolding wideEnd
   at-seven a =
       sym (rank-at false (valueOf w) (value-lt w h) 6 (omega arith)
       (carry-le (w .w0) v1 (2 ^ 64) (carry-le (w .w1) v2 (2 ^ 32) (carry-le (w .w2) v3 1 (omega arith)))) (value-lt w h))
@@ -93,28 +93,28 @@ module _ (w : Wide) (h : Words w) where
   doubled-rank : (r : Wide) (j x : ℕ) → 2 * x ≡ reach true (valueOf w) → r ≡ wideOf (2 * x) → j ≡ rank false (valueOf r) → j ≡ rank true (valueOf w)
   doubled-rank r j x t e g =
       let n : ℕ = valueOf w in
-      let l : n < whole = value-lt w h in
+      let l : n < wideEnd = value-lt w h in
       let v : valueOf r ≡ reach true n = ap valueOf (e ∙ ap wideOf t) ∙ value-wide (reach true n) (reach-lt true n l) in
       g ∙ ap (rank false) v ∙ rank-reach true n l
 
   rank-positive : (r : Wide) (j : ℕ) → w .w3 < 2147483648 → r ≡ wideOf (2 * valueOf w) → j ≡ rank false (valueOf r) → j ≡ rank true (valueOf w)
   rank-positive r j t e g = doubled-rank r j (valueOf w) (reach-small (valueOf w) (top-small w h t)) e g
 
-  rank-negative : (v r : Wide) (j : ℕ) → 2147483648 ≤ w .w3 → v ≡ wideOf (whole - 1 - valueOf w) → r ≡ wideOf (2 * valueOf v)
+  rank-negative : (v r : Wide) (j : ℕ) → 2147483648 ≤ w .w3 → v ≡ wideOf (wideEnd - 1 - valueOf w) → r ≡ wideOf (2 * valueOf v)
       → j ≡ rank false (valueOf r) → j ≡ rank true (valueOf w)
   rank-negative v r j t d e g =
       let n : ℕ = valueOf w in
-      let l : n < whole = value-lt w h in
-      let less : whole - 1 - n < whole = turned-lt n whole l in
-      doubled-rank r j (whole - 1 - n) (reach-big n (top-big w t) l)
-      (e ∙ ap (λ (x : Wide). wideOf (2 * valueOf x)) d ∙ ap (λ (x : ℕ). wideOf (2 * x)) (value-wide (whole - 1 - n) less)) g
+      let l : n < wideEnd = value-lt w h in
+      let less : wideEnd - 1 - n < wideEnd = turned-lt n wideEnd l in
+      doubled-rank r j (wideEnd - 1 - n) (reach-big n (top-big w t) l)
+      (e ∙ ap (λ (x : Wide). wideOf (2 * valueOf x)) d ∙ ap (λ (x : ℕ). wideOf (2 * x)) (value-wide (wideEnd - 1 - n) less)) g
 
   -- of the number itself, or of its complement
-  pub rank-folded : (v r : Wide) (j : ℕ) → v ≡ cond (ltb (w .w3) 2147483648) w (wideOf (whole - 1 - valueOf w)) → r ≡ wideOf (2 * valueOf v)
+  pub rank-folded : (v r : Wide) (j : ℕ) → v ≡ cond (ltb (w .w3) 2147483648) w (wideOf (wideEnd - 1 - valueOf w)) → r ≡ wideOf (2 * valueOf v)
       → j ≡ rank false (valueOf r) → j ≡ rank true (valueOf w)
   rank-folded v r j d e g =
       either 2147483648 (w .w3)
-      (λ t. rank-negative v r j t (d ∙ ap (λ (b : Bool). cond b w (wideOf (whole - 1 - valueOf w))) (le-ltb (w .w3) 2147483648 t)) e g)
+      (λ t. rank-negative v r j t (d ∙ ap (λ (b : Bool). cond b w (wideOf (wideEnd - 1 - valueOf w))) (le-ltb (w .w3) 2147483648 t)) e g)
       (λ t.
-      let k : v ≡ w = d ∙ ap (λ (b : Bool). cond b w (wideOf (whole - 1 - valueOf w))) (lt-ltb (w .w3) 2147483648 t) in
+      let k : v ≡ w = d ∙ ap (λ (b : Bool). cond b w (wideOf (wideEnd - 1 - valueOf w))) (lt-ltb (w .w3) 2147483648 t) in
       rank-positive r j t (e ∙ ap (λ (x : Wide). wideOf (2 * valueOf x)) k) g)

@@ -10,8 +10,8 @@ use lib.Dec.{leb, ltb, lit≤}
 use lib.Pow.{pow-add}
 use borrow.Author.Tests.{lt-ltb, le-ltb, le-leb, lt-leb, eq-eqb, ne-eqb, ltb-true}
 use Rattle.wide.specs.Number.{number, bytesOf}
-use Rattle.wide.specs.Words.{whole}
-use Rattle.wide.specs.Body.{sizes, sizeAt, negative, extended, bodyValue, fits, firstOf, rank}
+use Rattle.wide.specs.Words.{wideEnd}
+use Rattle.wide.specs.Body.{bodySizes, sizeAt, negative, extended, bodyValue, fitsIn, firstOf, rank}
 use Rattle.wide.proofs.Numbers.{either, Bytes, length-bytesOf, bytes-bytesOf, number-bytesOf, number-lt, pow-step}
 use Rattle.wide.proofs.Wides.{half, whole-half}
 use Rattle.wide.proofs.Bodies.{pow-whole}
@@ -26,30 +26,30 @@ apart b p q = absurd (let z : _≡_ {A = ℕ} 0 1 = cc in omega arith)
 
 -- what has to be below 256 ^ k for a number below whole to fit k bytes: of a signed one twice the number, or twice its complement
 abbrev pub reach : Bool → ℕ → ℕ
-reach true n = min (2 * n) (2 * (whole - 1 - n))
+reach true n = min (2 * n) (2 * (wideEnd - 1 - n))
 reach false n = n
 
-pub reach-lt : (signed : Bool) (n : ℕ) → n < whole → reach signed n < whole
+pub reach-lt : (signed : Bool) (n : ℕ) → n < wideEnd → reach signed n < wideEnd
 reach-lt false n h = h
 reach-lt true n h = omega (arith, whole-half)
 
 -- ---- a body of k bytes
 
 -- whole is a multiple of 256 ^ k
-cofactor : (k : ℕ) → k ≤ 16 → whole ≡ 256 ^ k * 256 ^ (16 - k)
-unfolding whole
+cofactor : (k : ℕ) → k ≤ 16 → wideEnd ≡ 256 ^ k * 256 ^ (16 - k)
+unfolding wideEnd
 cofactor k h = let e : 16 ≡ k + (16 - k) = omega arith in ap (λ (x : ℕ). 256 ^ x) e ∙ pow-add 256 k (16 - k)
 
 -- what lies whole - p above a number below p has that number for its rest
-high-rest : (k y : ℕ) → k ≤ 16 → y < 256 ^ k → (y + (whole - 256 ^ k)) % 256 ^ k ≡ y
+high-rest : (k y : ℕ) → k ≤ 16 → y < 256 ^ k → (y + (wideEnd - 256 ^ k)) % 256 ^ k ≡ y
 high-rest k y h l =
     let p : ℕ = 256 ^ k in
     let c : ℕ = 256 ^ (16 - k) in
     let q : p * (c - 1) ≡ p * c - p * 1 = mul-sub p c 1 in
-    let e : y + (whole - p) ≡ p * (c - 1) + y = omega (arith, cofactor k h, mul-one p) in
+    let e : y + (wideEnd - p) ≡ p * (c - 1) + y = omega (arith, cofactor k h, mul-one p) in
     ap (λ (x : ℕ). x % p) e ∙ mul-add-mod-self-left p (c - 1) y ∙ mod-eq-of-lt l
 
-extended-yes : (k x : ℕ) (b : Bool) → b ≡ true → extended b k x ≡ x + (whole - 256 ^ k)
+extended-yes : (k x : ℕ) (b : Bool) → b ≡ true → extended b k x ≡ x + (wideEnd - 256 ^ k)
 extended-yes k x b e = ap (λ (t : Bool). extended t k x) e
 
 extended-no : (k x : ℕ) (b : Bool) → b ≡ false → extended b k x ≡ x
@@ -58,16 +58,16 @@ extended-no k x b e = ap (λ (t : Bool). extended t k x) e
 even : (k : ℕ) → 1 ≤ k → 256 ^ k ≡ 256 * 256 ^ (k - 1)
 even k h = let e : k ≡ suc (k - 1) = omega arith in ap (λ (x : ℕ). 256 ^ x) e ∙ pow-step (k - 1)
 
-back : (signed : Bool) (k n : ℕ) → 1 ≤ k → k ≤ 16 → n < whole → reach signed n < 256 ^ k → extended (negative signed k (n % 256 ^ k)) k (n % 256 ^ k) ≡ n
+back : (signed : Bool) (k n : ℕ) → 1 ≤ k → k ≤ 16 → n < wideEnd → reach signed n < 256 ^ k → extended (negative signed k (n % 256 ^ k)) k (n % 256 ^ k) ≡ n
 back false k n o h l f = mod-eq-of-lt f
 back true k n o h l f =
     let p : ℕ = 256 ^ k in
     either p (2 * n)
     (λ b.
-    let y : ℕ = n - (whole - p) in
-    let pw : p ≤ whole = pow-whole k h in
+    let y : ℕ = n - (wideEnd - p) in
+    let pw : p ≤ wideEnd = pow-whole k h in
     let yp : y < p = omega arith in
-    let e : n ≡ y + (whole - p) = omega arith in
+    let e : n ≡ y + (wideEnd - p) = omega arith in
     let r : n % p ≡ y = ap (λ (x : ℕ). x % p) e ∙ high-rest k y h yp in
     let q : p ≡ 256 * 256 ^ (k - 1) = even k o in
     let t : p ≤ 2 * y = omega arith in
@@ -77,37 +77,37 @@ back true k n o h l f =
     ap (λ (x : ℕ). extended (leb p (2 * x)) k x) r ∙ extended-no k n (leb p (2 * n)) (lt-leb p (2 * n) b))
 
 -- a size that the reach allows reads the number back
-pub reads-back : (signed : Bool) (k n : ℕ) → 1 ≤ k → k ≤ 16 → n < whole → reach signed n < 256 ^ k → bodyValue signed (bytesOf k n) ≡ n
+pub reads-back : (signed : Bool) (k n : ℕ) → 1 ≤ k → k ≤ 16 → n < wideEnd → reach signed n < 256 ^ k → bodyValue signed (bytesOf k n) ≡ n
 unfolding bodyValue
 reads-back signed k n o h l f =
     ap₂ (λ (i x : ℕ). extended (negative signed i x) i x) (length-bytesOf k n) (number-bytesOf k n) ∙ back signed k n o h l f
 
 -- what k bytes are read as is below whole, and its reach allows k bytes
-pub record Held (signed : Bool) (k v : ℕ) : Type 0 where
-  pub small : v < whole
+pub record Kept (signed : Bool) (k v : ℕ) : Type 0 where
+  pub small : v < wideEnd
   pub near : reach signed v < 256 ^ k
 
-held : (signed : Bool) (k m : ℕ) → k ≤ 16 → m < 256 ^ k → Held signed k (extended (negative signed k m) k m)
-held false k m h l = let pw : 256 ^ k ≤ whole = pow-whole k h in record { small = omega arith; near = l }
-held true k m h l =
+keeps : (signed : Bool) (k m : ℕ) → k ≤ 16 → m < 256 ^ k → Kept signed k (extended (negative signed k m) k m)
+keeps false k m h l = let pw : 256 ^ k ≤ wideEnd = pow-whole k h in record { small = omega arith; near = l }
+keeps true k m h l =
     let p : ℕ = 256 ^ k in
-    let pw : p ≤ whole = pow-whole k h in
+    let pw : p ≤ wideEnd = pow-whole k h in
     either p (2 * m)
-    (λ b. subst (Held true k) (sym (extended-yes k m (leb p (2 * m)) (le-leb p (2 * m) b))) (record { small = omega arith; near = omega arith }))
-    (λ b. subst (Held true k) (sym (extended-no k m (leb p (2 * m)) (lt-leb p (2 * m) b))) (record { small = omega arith; near = omega arith }))
+    (λ b. subst (Kept true k) (sym (extended-yes k m (leb p (2 * m)) (le-leb p (2 * m) b))) (record { small = omega arith; near = omega arith }))
+    (λ b. subst (Kept true k) (sym (extended-no k m (leb p (2 * m)) (lt-leb p (2 * m) b))) (record { small = omega arith; near = omega arith }))
 
-pub body-held : (signed : Bool) (bs : List ℕ) → Bytes bs → length bs ≤ 16 → Held signed (length bs) (bodyValue signed bs)
+pub body-held : (signed : Bool) (bs : List ℕ) → Bytes bs → length bs ≤ 16 → Kept signed (length bs) (bodyValue signed bs)
 unfolding bodyValue
-body-held signed bs h l = held signed (length bs) (number bs) l (number-lt bs h)
+body-held signed bs h l = keeps signed (length bs) (number bs) l (number-lt bs h)
 
 -- what fits which size
-pub fits-reach : (signed : Bool) (n k : ℕ) → 1 ≤ k → k ≤ 16 → n < whole → fits signed n k ≡ ltb (reach signed n) (256 ^ k)
-unfolding fits
+pub fits-reach : (signed : Bool) (n k : ℕ) → 1 ≤ k → k ≤ 16 → n < wideEnd → fitsIn signed n k ≡ ltb (reach signed n) (256 ^ k)
+unfolding fitsIn
 fits-reach signed n k o h l =
     let l′ : length (bytesOf k n) ≡ k = length-bytesOf k n in
     either (256 ^ k) (reach signed n)
     (λ b. ne-eqb (bodyValue signed (bytesOf k n)) n (λ e.
-    let f : Held signed (length (bytesOf k n)) (bodyValue signed (bytesOf k n)) = body-held signed (bytesOf k n) (bytes-bytesOf k n) (omega arith) in
+    let f : Kept signed (length (bytesOf k n)) (bodyValue signed (bytesOf k n)) = body-held signed (bytesOf k n) (bytes-bytesOf k n) (omega arith) in
     let g : reach signed n < 256 ^ k = subst (λ (v : ℕ). reach signed v < 256 ^ k) e (subst (λ (x : ℕ). reach signed (bodyValue signed (bytesOf k n)) < 256 ^ x) l′ (f .near)) in
     omega arith)
     ∙ sym (le-ltb (reach signed n) (256 ^ k) b))
@@ -167,26 +167,26 @@ pub size-high : (j : ℕ) → j < 8 → sizeAt j ≤ 16
 size-high j h = size-mono j 7 (omega arith) (omega arith)
 
 -- a size by its place
-pub fits-at : (signed : Bool) (n j : ℕ) → j < 8 → n < whole → fits signed n (sizeAt j) ≡ ltb (reach signed n) (256 ^ sizeAt j)
+pub fits-at : (signed : Bool) (n j : ℕ) → j < 8 → n < wideEnd → fitsIn signed n (sizeAt j) ≡ ltb (reach signed n) (256 ^ sizeAt j)
 fits-at signed n j l h = fits-reach signed n (sizeAt j) (size-low j l) (size-high j l) h
 
 -- the largest size holds every number
-last-fits : (signed : Bool) (n : ℕ) → n < whole → fits signed n (sizeAt 7) ≡ true
-unfolding whole
+last-fits : (signed : Bool) (n : ℕ) → n < wideEnd → fitsIn signed n (sizeAt 7) ≡ true
+unfolding wideEnd
 last-fits signed n h = fits-at signed n 7 (lit≤ tt) h ∙ lt-ltb (reach signed n) (256 ^ 16) (reach-lt signed n h)
 
-module _ (signed : Bool) (n : ℕ) (small : n < whole) where
+module _ (signed : Bool) (n : ℕ) (small : n < wideEnd) where
   pub rank-lt : rank signed n < 8
   unfolding rank
-  rank-lt = suc-le-suc (first-least (fits signed n) sizes 7 (lit≤ tt) (last-fits signed n small))
+  rank-lt = suc-le-suc (first-least (fitsIn signed n) bodySizes 7 (lit≤ tt) (last-fits signed n small))
 
   pub rank-least : (j : ℕ) → j < 8 → reach signed n < 256 ^ sizeAt j → rank signed n ≤ j
   unfolding rank
-  rank-least j l h = first-least (fits signed n) sizes j l (fits-at signed n j l small ∙ lt-ltb (reach signed n) (256 ^ sizeAt j) h)
+  rank-least j l h = first-least (fitsIn signed n) bodySizes j l (fits-at signed n j l small ∙ lt-ltb (reach signed n) (256 ^ sizeAt j) h)
 
   pub rank-holds : reach signed n < 256 ^ sizeAt (rank signed n)
   unfolding rank
-  rank-holds = ltb-true (reach signed n) _ (sym (fits-at signed n (rank signed n) rank-lt small) ∙ first-passes (fits signed n) sizes rank-lt)
+  rank-holds = ltb-true (reach signed n) _ (sym (fits-at signed n (rank signed n) rank-lt small) ∙ first-passes (fitsIn signed n) bodySizes rank-lt)
 
   -- what the shortest body reads as
   pub rank-reads : bodyValue signed (bytesOf (sizeAt (rank signed n)) n) ≡ n
@@ -196,13 +196,13 @@ module _ (signed : Bool) (n : ℕ) (small : n < whole) where
   pub rank-zero : reach signed n < 256 → rank signed n ≡ 0
   unfolding rank
   rank-zero h =
-      first-at (fits signed n) sizes 0 (suc-le-suc zero-le) (λ i b. absurd (not-suc-le-zero b))
+      first-at (fitsIn signed n) bodySizes 0 (suc-le-suc zero-le) (λ i b. absurd (not-suc-le-zero b))
       (fits-at signed n 0 (suc-le-suc zero-le) small ∙ lt-ltb (reach signed n) (256 ^ 1) h)
 
   pub rank-at : (j : ℕ) → suc j < 8 → 256 ^ sizeAt j ≤ reach signed n → reach signed n < 256 ^ sizeAt (suc j) → rank signed n ≡ suc j
   unfolding rank
   rank-at j l h g =
-      first-at (fits signed n) sizes (suc j) l
+      first-at (fitsIn signed n) bodySizes (suc j) l
       (λ i b. fits-at signed n i (omega arith) small ∙ le-ltb (reach signed n) (256 ^ sizeAt i) (le-trans (pow-le-pow-right (zero-lt-suc 255) (size-mono i j (omega arith) (omega arith))) h))
       (fits-at signed n (suc j) l small ∙ lt-ltb (reach signed n) (256 ^ sizeAt (suc j)) g)
 
@@ -211,13 +211,13 @@ module _ (signed : Bool) (n : ℕ) (small : n < whole) where
 pub reach-small : (n : ℕ) → n < half → 2 * n ≡ reach true n
 reach-small n h = omega (arith, whole-half)
 
-pub reach-big : (n : ℕ) → half ≤ n → n < whole → 2 * (whole - 1 - n) ≡ reach true n
+pub reach-big : (n : ℕ) → half ≤ n → n < wideEnd → 2 * (wideEnd - 1 - n) ≡ reach true n
 reach-big n h k = omega (arith, whole-half)
 
-pub rank-reach : (signed : Bool) (n : ℕ) → n < whole → rank false (reach signed n) ≡ rank signed n
+pub rank-reach : (signed : Bool) (n : ℕ) → n < wideEnd → rank false (reach signed n) ≡ rank signed n
 unfolding rank
 rank-reach signed n h =
-    first-at (fits false (reach signed n)) sizes (rank signed n) (rank-lt signed n h)
+    first-at (fitsIn false (reach signed n)) bodySizes (rank signed n) (rank-lt signed n h)
     (λ i b. fits-at false (reach signed n) i (omega (arith, rank-lt signed n h)) (reach-lt signed n h)
     ∙ bool-case (ltb (reach signed n) (256 ^ sizeAt i))
     (λ e. absurd (below i b (ltb-true (reach signed n) (256 ^ sizeAt i) e)))

@@ -6,7 +6,7 @@ use native.Mathlib.Nat.{mod-lt, mod-eq-of-lt, mod-add-mod, add-mod-mod, add-mod-
 use native.Mathlib.Omega.{arith}
 use lib.Dec.{ltb, lit≤}
 use borrow.Author.Tests.{ltb-true}
-use Rattle.wide.specs.Words.{whole}
+use Rattle.wide.specs.Words.{wideEnd}
 use Rattle.wide.specs.Family.{Run, behind, hasByte, numberOf, hasNumber, byteOf}
 
 -- o behind a stands o behind a
@@ -27,41 +27,41 @@ pub behind-lt : (m a x : ℕ) → 0 < m → behind m a x < m
 unfolding behind
 behind-lt m a x h = mod-lt (x + (m - a)) h
 
-pub bytes-whole : 256 ≤ whole
-unfolding whole
+pub bytes-whole : 256 ≤ wideEnd
+unfolding wideEnd
 bytes-whole = lit≤ tt
 
 -- a run has bytes and numbers of its own
 pub record Valid (r : Run) : Type 0 where
   pub low-byte : r .low < 256
-  pub from-small : r .from < whole
+  pub from-small : r .from < wideEnd
   pub few : r .count ≤ 256
 
 module _ (r : Run) (v : Valid r) where
   -- the number of a byte is at the byte's distance, and is the run's where the byte is
-  number-behind : (b : ℕ) → behind whole (r .from) (numberOf r b) ≡ behind 256 (r .low) b
+  number-behind : (b : ℕ) → behind wideEnd (r .from) (numberOf r b) ≡ behind 256 (r .low) b
   number-behind b =
-      behind-move whole (r .from) (behind 256 (r .low) b) (v .from-small) (omega (arith, behind-lt 256 (r .low) b (lit≤ tt), bytes-whole))
+      behind-move wideEnd (r .from) (behind 256 (r .low) b) (v .from-small) (omega (arith, behind-lt 256 (r .low) b (lit≤ tt), bytes-whole))
 
   pub number-has : (b : ℕ) → hasNumber r (numberOf r b) ≡ hasByte r b
   number-has b = ap (λ (o : ℕ). ltb o (r .count)) (number-behind b)
 
-  pub number-small : (b : ℕ) → numberOf r b < whole
+  pub number-small : (b : ℕ) → numberOf r b < wideEnd
   number-small b = mod-lt (r .from + behind 256 (r .low) b) (omega (arith, bytes-whole))
 
   pub byte-small : (n : ℕ) → byteOf r n < 256
-  byte-small n = mod-lt (r .low + behind whole (r .from) n) (lit≤ tt)
+  byte-small n = mod-lt (r .low + behind wideEnd (r .from) n) (lit≤ tt)
 
   -- the byte of a number is at the number's distance
-  byte-behind : (n : ℕ) → hasNumber r n ≡ true → behind 256 (r .low) (byteOf r n) ≡ behind whole (r .from) n
+  byte-behind : (n : ℕ) → hasNumber r n ≡ true → behind 256 (r .low) (byteOf r n) ≡ behind wideEnd (r .from) n
   byte-behind n e =
-      behind-move 256 (r .low) (behind whole (r .from) n) (v .low-byte)
-      (omega (arith, ltb-true (behind whole (r .from) n) (r .count) e, v .few))
+      behind-move 256 (r .low) (behind wideEnd (r .from) n) (v .low-byte)
+      (omega (arith, ltb-true (behind wideEnd (r .from) n) (r .count) e, v .few))
 
   pub byte-has : (n : ℕ) → hasNumber r n ≡ true → hasByte r (byteOf r n) ≡ true
   byte-has n e = ap (λ (o : ℕ). ltb o (r .count)) (byte-behind n e) ∙ e
 
-  pub byte-number : (n : ℕ) → n < whole → hasNumber r n ≡ true → numberOf r (byteOf r n) ≡ n
+  pub byte-number : (n : ℕ) → n < wideEnd → hasNumber r n ≡ true → numberOf r (byteOf r n) ≡ n
   byte-number n h e =
-      let f : r .from ≤ whole = omega (arith, v .from-small) in
-      ap (λ (o : ℕ). (r .from + o) % whole) (byte-behind n e) ∙ behind-back whole (r .from) n f h
+      let f : r .from ≤ wideEnd = omega (arith, v .from-small) in
+      ap (λ (o : ℕ). (r .from + o) % wideEnd) (byte-behind n e) ∙ behind-back wideEnd (r .from) n f h

@@ -7,15 +7,16 @@ use native.Mathlib.Nat.{not-suc-le-zero}
 use native.Mathlib.Omega.{arith}
 use lib.Dec.{leb, ltb, eqb}
 use borrow.Author.Tests.{leb-true, ltb-true, eqb-true, not-true}
-use Rattle.wide.specs.Words.{whole}
+use Rattle.wide.specs.Words.{wideEnd}
 use Rattle.wide.specs.Family.{Run, behind, hasByte, Family}
-use Rattle.wide.specs.Members.{variable, integerSigned, integerUnsigned, textLength, binaryLength, arrayCount, recordCount, mapCount, referenceNumber, declarationCount, foreignLength}
+use Rattle.wide.specs.Members.{integerSigned, integerUnsigned, textLength, binaryLength, arrayCount, recordCount, mapCount, referenceNumber, declarationCount, foreignLength}
+use Rattle.wide.specs.Contracts.{variable}
 use Rattle.wide.proofs.Numbers.{either, Bytes}
 use Rattle.wide.proofs.Runs.{Valid}
 use Rattle.wide.proofs.Families.{Opening, Sound}
 
 testRun : Run → Bool
-testRun r = ltb (r .low) 256 && (ltb (r .from) whole && leb (r .count) 256)
+testRun r = ltb (r .low) 256 && (ltb (r .from) wideEnd && leb (r .count) 256)
 
 testBodies : Run → ℕ → ℕ → Bool
 testBodies r first zero = true
@@ -47,11 +48,11 @@ right a b h = and-eq-true-iff a b .0 h .1
 valid : (r : Run) → So (testRun r) → Valid r
 unfolding testRun
 valid r h =
-    let g : So (ltb (r .from) whole && leb (r .count) 256) = right (ltb (r .low) 256) _ h in
+    let g : So (ltb (r .from) wideEnd && leb (r .count) 256) = right (ltb (r .low) 256) _ h in
     record {
       low-byte = ltb-true (r .low) 256 (left _ _ h);
-      from-small = ltb-true (r .from) whole (left _ _ g);
-      few = leb-true (r .count) 256 (right (ltb (r .from) whole) _ g);
+      from-small = ltb-true (r .from) wideEnd (left _ _ g);
+      few = leb-true (r .count) 256 (right (ltb (r .from) wideEnd) _ g);
     }
 
 bodies : (r : Run) (first k : ℕ) → So (testBodies r first k) → (j : ℕ) → j < k → hasByte r (first + j) ≡ false
@@ -91,7 +92,7 @@ sound F h =
 -- ---- the members
 
 pub sound-variable : (s : Bool) → Sound (variable s)
-unfolding testFamily testRun testBodies testBytes testOpening behind whole
+unfolding testFamily testRun testBodies testBytes testOpening behind wideEnd
 sound-variable true = sound (variable true) refl
 sound-variable false = sound (variable false) refl
 
@@ -101,7 +102,7 @@ pub record Integers : Type 0 where
   pub unsigned : Sound integerUnsigned
 
 pub sound-integers : Integers
-unfolding testFamily testRun testBodies testBytes testOpening behind whole
+unfolding testFamily testRun testBodies testBytes testOpening behind wideEnd
 sound-integers = record { signed = sound integerSigned refl; unsigned = sound integerUnsigned refl }
 
 -- lengths, counts and reference numbers
@@ -116,7 +117,7 @@ pub record Headers : Type 0 where
   pub foreign : Sound foreignLength
 
 pub sound-headers : Headers
-unfolding testFamily testRun testBodies testBytes testOpening behind whole
+unfolding testFamily testRun testBodies testBytes testOpening behind wideEnd
 sound-headers = record {
   text = sound textLength refl;
   binary = sound binaryLength refl;

@@ -5,7 +5,7 @@ use Prim.Native.Nat.{ℕ, _+_, _-_, _*_, _/_, _%_, _^_, _≤_, _<_}
 use native.Mathlib.Omega.{arith}
 use lib.Dec.{ltb}
 use Rattle.wide.specs.declared.wide.Wide.{Wide}
-use Rattle.wide.specs.Words.{whole, valueOf, wideOf, words}
+use Rattle.wide.specs.Words.{wideEnd, valueOf, wideOf, words}
 use Rattle.wide.proofs.Wides.{Words, wide-digits, words-wide, wide-value, whole-words, half, half-words, carry-lt}
 
 abbrev pub shifted : Wide → ℕ → Wide
@@ -90,7 +90,7 @@ words-turned w = record { f0 = below (w .w0); f1 = below (w .w1); f2 = below (w 
     below : (x : ℕ) → 4294967295 - x < 2 ^ 32
     below x = omega arith
 
-value-turned : (w : Wide) → Words w → whole - 1 - valueOf w ≡ valueOf (turned w)
+value-turned : (w : Wide) → Words w → wideEnd - 1 - valueOf w ≡ valueOf (turned w)
 value-turned w h =
     let m3 : ℕ = w .w3 in
     let m2 : ℕ = w .w2 + 2 ^ 32 * m3 in
@@ -102,7 +102,7 @@ value-turned w h =
     ∙ ap (λ (x : ℕ). 4294967295 - w .w0 + 2 ^ 32 * x) (turn-word (w .w1) m2 (2 ^ 32 * 2 ^ 32) (h .f1) l2)
     ∙ ap (λ (x : ℕ). 4294967295 - w .w0 + 2 ^ 32 * (4294967295 - w .w1 + 2 ^ 32 * x)) (turn-word (w .w2) m3 (2 ^ 32) (h .f2) (h .f3))
 
-complemented : (w : Wide) → Words w → turned w ≡ wideOf (whole - 1 - valueOf w)
+complemented : (w : Wide) → Words w → turned w ≡ wideOf (wideEnd - 1 - valueOf w)
 complemented w h = sym (ap wideOf (value-turned w h) ∙ wide-value (turned w) (words-turned w))
 
 -- word by word
@@ -110,14 +110,14 @@ abbrev turnedWord : ℕ → ℕ → ℕ
 turnedWord x top = cond (ltb top 2147483648) x (4294967295 - x)
 
 pub folded : (w : Wide) → Words w → (a b c d : ℕ) → a ≡ turnedWord (w .w0) (w .w3) → b ≡ turnedWord (w .w1) (w .w3) → c ≡ turnedWord (w .w2) (w .w3)
-    → d ≡ turnedWord (w .w3) (w .w3) → words a b c d ≡ cond (ltb (w .w3) 2147483648) w (wideOf (whole - 1 - valueOf w))
+    → d ≡ turnedWord (w .w3) (w .w3) → words a b c d ≡ cond (ltb (w .w3) 2147483648) w (wideOf (wideEnd - 1 - valueOf w))
 folded w h a b c d ea eb ec ed = all (ltb (w .w3) 2147483648) a b c d ea eb ec ed
   where
     same : {a b c d a₁ b₁ c₁ d₁ : ℕ} → a ≡ a₁ → b ≡ b₁ → c ≡ c₁ → d ≡ d₁ → words a b c d ≡ words a₁ b₁ c₁ d₁
     same p q r s = cc
 
     all : (t : Bool) (a b c d : ℕ) → a ≡ cond t (w .w0) (4294967295 - w .w0) → b ≡ cond t (w .w1) (4294967295 - w .w1)
-        → c ≡ cond t (w .w2) (4294967295 - w .w2) → d ≡ cond t (w .w3) (4294967295 - w .w3) → words a b c d ≡ cond t w (wideOf (whole - 1 - valueOf w))
+        → c ≡ cond t (w .w2) (4294967295 - w .w2) → d ≡ cond t (w .w3) (4294967295 - w .w3) → words a b c d ≡ cond t w (wideOf (wideEnd - 1 - valueOf w))
     all true a b c d ea eb ec ed = same ea eb ec ed
     all false a b c d ea eb ec ed = same ea eb ec ed ∙ complemented w h
 

@@ -5,7 +5,7 @@ use native.Mathlib.Nat.{mul-assoc}
 use native.Mathlib.Omega.{arith}
 use lib.Dec.{lit<}
 use Rattle.wide.specs.declared.wide.Wide.{Wide}
-use Rattle.wide.specs.Words.{whole, words, valueOf, wideOf}
+use Rattle.wide.specs.Words.{wideEnd, words, valueOf, wideOf}
 
 -- half of whole: the first number that is negative
 unfoldable pub half : ℕ
@@ -64,14 +64,14 @@ wide-value w h =
     (small-word (w .w3) (h .f3))
 
 -- whole, a word at a time
-pub whole-words : whole ≡ 2 ^ 32 * (2 ^ 32 * (2 ^ 32 * 2 ^ 32))
-unfolding whole
+pub whole-words : wideEnd ≡ 2 ^ 32 * (2 ^ 32 * (2 ^ 32 * 2 ^ 32))
+unfolding wideEnd
 whole-words = refl
 
 pub carry-lt : (w m k : ℕ) → w < 2 ^ 32 → m < k → w + 2 ^ 32 * m < 2 ^ 32 * k
 carry-lt w m k h l = omega arith
 
-pub value-lt : (w : Wide) → Words w → valueOf w < whole
+pub value-lt : (w : Wide) → Words w → valueOf w < wideEnd
 value-lt w h =
     subst (λ (k : ℕ). valueOf w < k) (sym whole-words)
     (carry-lt (w .w0) _ _ (h .f0) (carry-lt (w .w1) _ _ (h .f1) (carry-lt (w .w2) _ _ (h .f2) (h .f3))))
@@ -83,7 +83,7 @@ hi-lt : (n k : ℕ) → n < 2 ^ 32 * k → n / 2 ^ 32 < k
 hi-lt n k h = omega arith
 
 -- a number below whole is the number of its words
-pub value-wide : (n : ℕ) → n < whole → valueOf (wideOf n) ≡ n
+pub value-wide : (n : ℕ) → n < wideEnd → valueOf (wideOf n) ≡ n
 unfolding wideOf
 value-wide n h =
     let n1 : ℕ = n / 2 ^ 32 in
@@ -103,10 +103,10 @@ hi-more : (n x : ℕ) → (n + 2 ^ 32 * x) / 2 ^ 32 ≡ n / 2 ^ 32 + x
 hi-more n x = omega arith
 
 -- whole more leaves the words
-pub wide-more : (n q : ℕ) → wideOf (n + whole * q) ≡ wideOf n
+pub wide-more : (n q : ℕ) → wideOf (n + wideEnd * q) ≡ wideOf n
 unfolding wideOf
 wide-more n q =
-    let e : whole * q ≡ 2 ^ 32 * (2 ^ 32 * (2 ^ 32 * (2 ^ 32 * q))) =
+    let e : wideEnd * q ≡ 2 ^ 32 * (2 ^ 32 * (2 ^ 32 * (2 ^ 32 * q))) =
     ap (λ (k : ℕ). k * q) whole-words
     ∙ mul-assoc (2 ^ 32) (2 ^ 32 * (2 ^ 32 * 2 ^ 32)) q
     ∙ ap (λ (k : ℕ). 2 ^ 32 * k) (mul-assoc (2 ^ 32) (2 ^ 32 * 2 ^ 32) q
@@ -116,14 +116,14 @@ wide-more n q =
     (lo-more n _) (hi-more n _) (lo-more (n / 2 ^ 32) _) (hi-more (n / 2 ^ 32) _) (lo-more (n / 2 ^ 32 / 2 ^ 32) _) (hi-more (n / 2 ^ 32 / 2 ^ 32) _)
     (lo-more (n / 2 ^ 32 / 2 ^ 32 / 2 ^ 32) q)
 
-pub whole-half : whole ≡ 2 * half
-unfolding whole half
+pub whole-half : wideEnd ≡ 2 * half
+unfolding wideEnd half
 whole-half = refl
 
 pub half-words : half ≡ 2 ^ 32 * (2 ^ 32 * (2 ^ 32 * 2 ^ 31))
 unfolding half
 half-words = refl
 
-pub whole-pos : 0 < whole
-unfolding whole
+pub whole-pos : 0 < wideEnd
+unfolding wideEnd
 whole-pos = lit< tt

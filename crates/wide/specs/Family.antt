@@ -5,7 +5,7 @@ use Prim.Native.Nat.{ℕ, suc, _+_, _-_, _%_}
 use lib.ListN.{length, take}
 use lib.Dec.{leb, ltb, eqb}
 use Rattle.wide.specs.Number.{bytesOf}
-use Rattle.wide.specs.Words.{whole}
+use Rattle.wide.specs.Words.{wideEnd}
 use Rattle.wide.specs.Body.{sizeAt, bodyValue, rank}
 
 -- A run of bytes that are numbers by themselves, as `84`..`ff`, `00`..`7b` are -124..123: `count` bytes from `low` on (behind ff stands
@@ -24,14 +24,14 @@ abbrev pub hasByte : Run → ℕ → Bool
 hasByte r b = ltb (behind 256 (r .low) b) (r .count)
 
 abbrev pub numberOf : Run → ℕ → ℕ
-numberOf r b = (r .from + behind 256 (r .low) b) % whole
+numberOf r b = (r .from + behind 256 (r .low) b) % wideEnd
 
 -- the number n belongs to the run, and is this byte
 abbrev pub hasNumber : Run → ℕ → Bool
-hasNumber r n = ltb (behind whole (r .from) n) (r .count)
+hasNumber r n = ltb (behind wideEnd (r .from) n) (r .count)
 
 abbrev pub byteOf : Run → ℕ → ℕ
-byteOf r n = (r .low + behind whole (r .from) n) % 256
+byteOf r n = (r .low + behind wideEnd (r .from) n) % 256
 
 -- A family of coded numbers: the bytes that are numbers by themselves; the marker before every other form; behind it, the bytes that are
 -- numbers, or one of the eight bytes from `first` on and a body of the size that it names.

@@ -2,7 +2,7 @@
 use mathlib.Core.Bool.{Bool, true, false}
 use mathlib.Core.List.{List, [], _∷_}
 use Prim.Native.Nat.{ℕ, _-_}
-use Rattle.wide.specs.Words.{whole}
+use Rattle.wide.specs.Words.{wideEnd}
 use Rattle.wide.specs.Family.{Run, Family}
 
 abbrev pub run : ℕ → ℕ → ℕ → Run
@@ -17,16 +17,11 @@ unsigned = record { alone = none; marker = []; direct = run 0x00 248 0; first = 
 
 -- "`84`..`ff`: -124..-1; `00`..`7b`: 0..123; `7c`..`83` followed by 1, 2, 3, 4, 6, 8, 12, 16 bytes, two's complement"
 abbrev pub signed : Family
-signed = record { alone = none; marker = []; direct = run 0x84 248 (whole - 124); first = 0x7c; signed = true }
-
--- the variable integer of that sign
-abbrev pub variable : Bool → Family
-variable true = signed
-variable false = unsigned
+signed = record { alone = none; marker = []; direct = run 0x84 248 (wideEnd - 124); first = 0x7c; signed = true }
 
 -- "`20`..`3f`: -31..0. `40`..`7f`: 1..64. `10`..`17`: signed bodies"
 abbrev pub integerSigned : Family
-integerSigned = record { alone = none; marker = []; direct = run 0x20 96 (whole - 31); first = 0x10; signed = true }
+integerSigned = record { alone = none; marker = []; direct = run 0x20 96 (wideEnd - 31); first = 0x10; signed = true }
 
 -- "`18`..`1f`: unsigned, same sizes"; an unsigned number is not below 0
 abbrev pub integerUnsigned : Family

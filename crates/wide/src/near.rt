@@ -3,7 +3,7 @@ ghost use mathlib.Core.Path.{_≡_};
 ghost use mathlib.Core.Bool.{_&&_};
 ghost use Prim.Native.Nat.{_+_, _-_, _%_, _≤_};
 ghost use lib.Dec.{ltb, eqb};
-ghost use Rattle.wide.specs.Words.{whole, valueOf, wideOf};
+ghost use Rattle.wide.specs.Words.{wideEnd, valueOf, wideOf};
 ghost use Rattle.wide.specs.Family.{behind};
 use crate::wide::Wide;
 
@@ -24,7 +24,7 @@ fn above(w: Wide, word: u32) -> bool
 // every number that is not.
 pub fn is_near(w: Wide, below: u32, up: u32) -> bool
     requires { ⌜ (below ≤ 256) × (up ≤ 256) ⌝ }
-    ensures { λ r. ⌜ r ≡ ltb (behind whole (whole - below) (valueOf w)) (below + up) ⌝ }
+    ensures { λ r. ⌜ r ≡ ltb (behind wideEnd (wideEnd - below) (valueOf w)) (below + up) ⌝ }
 {
     if w.w0 < up {
         return above(w, 0);
@@ -38,7 +38,7 @@ pub fn is_near(w: Wide, below: u32, up: u32) -> bool
 // The number that stands `far` behind -below.
 pub fn near(below: u32, far: u32) -> Wide
     requires { ⌜ (below ≤ 256) × (far ≤ 256) ⌝ }
-    ensures { λ r. ⌜ r ≡ wideOf ((whole - below + far) % whole) ⌝ }
+    ensures { λ r. ⌜ r ≡ wideOf ((wideEnd - below + far) % wideEnd) ⌝ }
 {
     if far < below {
         return Wide {

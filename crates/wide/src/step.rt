@@ -3,7 +3,7 @@ ghost use mathlib.Core.Path.{_≡_};
 ghost use mathlib.Core.Bool.{cond};
 ghost use lib.Dec.{ltb};
 ghost use Prim.Native.Nat.{_+_, _-_, _*_, _/_, _%_};
-ghost use Rattle.wide.specs.Words.{whole, words, valueOf, wideOf};
+ghost use Rattle.wide.specs.Words.{wideEnd, words, valueOf, wideOf};
 ghost use Rattle.wide.specs.Body.{extended};
 use crate::wide::Wide;
 
@@ -76,7 +76,7 @@ fn turned(x: u32, top: u32) -> u32
 
 // The number, or its complement where its highest bit is set: word by word, so that no branch depends on the sign.
 pub fn folded(w: Wide) -> Wide
-    ensures { λ r. ⌜ r ≡ cond (ltb (w .w3) 2147483648) w (wideOf (whole - 1 - valueOf w)) ⌝ }
+    ensures { λ r. ⌜ r ≡ cond (ltb (w .w3) 2147483648) w (wideOf (wideEnd - 1 - valueOf w)) ⌝ }
 {
     Wide {
         w0: turned(w.w0, w.w3),

@@ -11,17 +11,17 @@ use borrow.Author.Tests.{le-leb, lt-leb}
 use Rattle.rows.specs.Table.{wordsPerRow, rowAt, limit}
 use Rattle.format.specs.Tree.{Tree}
 use Rattle.rules.specs.Grow.{rulesHold}
-use Rattle.rules.specs.Fine.{Stands}
+use Rattle.rules.specs.Obeys.{Stands}
 use Rattle.rules.proofs.Exact.{yes-stands, laid-out, stands-grows}
 use Rattle.checker.specs.declared.checked.Checked.{Checked}
 use Rattle.checker.specs.declared.checked.Checked.the-variants as checks
 use Rattle.checker.specs.Checked.{checked}
 use Rattle.checker.proofs.Answers.{yes-holds}
 use Rattle.encode.specs.Encode.{encode}
-use Rattle.spell.specs.Own.{Inside}
+use Rattle.spell.specs.Contracts.{Inside}
 use Rattle.writer.specs.declared.written.Written.the-variants.{Done, BadTable, TooLarge, NoRoom}
 use Rattle.writer.specs.Written.{encoded, documentOf, written, outputAfter}
-use Rattle.writer.specs.Contracts.{Spells, Spelt, Long, Fits, Laid}
+use Rattle.writer.specs.Contracts.{Spells, Spelt, Long, RoomFor, FrontLaid}
 use Rattle.writer.proofs.Spelling.{inside-at, spelled-few}
 use Rattle.writer.proofs.Trees.{tree-spells}
 
@@ -68,7 +68,7 @@ module _ (depth : ℕ) (table : List ℕ) (n : ℕ) (s : List ℕ) where
         subst (λ (x : ℕ). length (documentOf depth table n s) ≤ x * 2 ^ 25) e (spelled-few table s fit (stands .1 .short) 0 n (documentOf depth table n s) (stands .1 .few) spells)
 
     pub yes-spelt : Spelt table 0 n
-    yes-spelt = record { held = stands .1 .held; few = stands .1 .few; over = s; short = stands .1 .short; bytes = documentOf depth table n s; spells = spells }
+    yes-spelt = record { rows-lent = stands .1 .rows-lent; few = stands .1 .few; over = s; short = stands .1 .short; bytes = documentOf depth table n s; spells = spells }
 
     module _ (needed : ℕ) (long : Long table 0 n needed) (out : List ℕ) where
       exact : needed ≡ length (documentOf depth table n s)
@@ -89,10 +89,10 @@ module _ (depth : ℕ) (table : List ℕ) (n : ℕ) (s : List ℕ) where
           let m : leb D (length out) ≡ false = lt-leb D (length out) (omega (arith, exact)) in
           (ap NoRoom exact ∙ rw (yes, l, m), rw (yes, l, m))
 
-      pub yes-fits : needed ≤ length out → Fits table s n (length out)
-      yes-fits r = record { held = stands .1 .held; few = stands .1 .few; short = stands .1 .short; bytes = documentOf depth table n s; spells = spells; fits = omega (arith, exact) }
+      pub yes-fits : needed ≤ length out → RoomFor table s n (length out)
+      yes-fits r = record { rows-lent = stands .1 .rows-lent; few = stands .1 .few; short = stands .1 .short; bytes = documentOf depth table n s; spells = spells; fits = omega (arith, exact) }
 
-      pub done : needed ≤ limit → needed ≤ length out → (after : List ℕ) → Laid table s n out after
+      pub done : needed ≤ limit → needed ≤ length out → (after : List ℕ) → FrontLaid table s n out after
           → (Done needed ≡ written depth table n s (length out)) × (after ≡ outputAfter depth table n s out)
       unfolding written outputAfter
       done h r after g =

@@ -6,7 +6,7 @@ use native.Mathlib.Omega.{arith}
 use lib.ListN.{length, getD}
 use Rattle.rows.specs.declared.row.Row.{Row}
 use Rattle.rows.specs.Table.{rowAt, lent, limit}
-use Rattle.spell.specs.Own.{ownBytes, ownSize}
+use Rattle.spell.specs.Contracts.{ownBytes, ownSize}
 use Rattle.writer.specs.Contracts.{Spells, none, next, Spelt, Long}
 use Rattle.writer.proofs.Spelling.{First, first, ended, first-long, spelled-few}
 
@@ -22,7 +22,7 @@ bounded table row stop p fit a x g =
 
 module _ (table : List ℕ) (row : ℕ) (p : Spelt table row (rowAt table row .end)) (up : row < rowAt table row .end) where
   pub row-held : row < lent table
-  row-held = omega (arith, p .held)
+  row-held = omega (arith, p .rows-lent)
 
   pub row-few : row < limit
   row-few = omega (arith, p .few)
@@ -35,7 +35,7 @@ module _ (table : List ℕ) (row : ℕ) (p : Spelt table row (rowAt table row .e
     child-spelt =
         let f : First table (p .over) row (rowAt table row .end) (p .bytes) = first table (p .over) row (rowAt table row .end) (p .bytes) up (p .spells) in
         record {
-          held = omega (arith, end-is, p .held);
+          rows-lent = omega (arith, end-is, p .rows-lent);
           few = omega (arith, end-is, p .few);
           over = p .over;
           short = p .short;
@@ -105,7 +105,7 @@ module _ (table : List ℕ) (row stop : ℕ) (p : Spelt table row stop) (here su
   opened = first table (p .over) here stop (rest .rest) below (rest .spells)
 
   pub here-held : here < lent table
-  here-held = omega (arith, p .held)
+  here-held = omega (arith, p .rows-lent)
 
   pub here-up : here < rowAt table here .end
   here-up = opened .up
@@ -116,7 +116,7 @@ module _ (table : List ℕ) (row stop : ℕ) (p : Spelt table row stop) (here su
   pub here-spelt : Spelt table here (rowAt table here .end)
   here-spelt =
       record {
-        held = omega (arith, here-low, p .held);
+        rows-lent = omega (arith, here-low, p .rows-lent);
         few = omega (arith, here-low, p .few);
         over = p .over;
         short = p .short;

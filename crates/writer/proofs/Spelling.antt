@@ -4,13 +4,13 @@ use mathlib.Core.List.{List, [], _++_, append-assoc}
 use Prim.Native.Nat.{ℕ, _+_, _-_, _*_, _^_, _≤_, _<_}
 use native.Mathlib.Omega.{arith}
 use lib.ListN.{length, getD, length-append}
-use Rattle.wide.specs.Words.{whole, words}
+use Rattle.wide.specs.Words.{wideEnd, words}
 use Rattle.wide.proofs.Numbers.{either}
 use Rattle.wide.proofs.Wides.{Words}
 use Rattle.rows.specs.declared.row.Row.{Row}
 use Rattle.rows.specs.Table.{rowAt, limit}
 use Rattle.plan.proofs.Forms.{double-whole}
-use Rattle.spell.specs.Own.{Inside, ownBytes, ownSize}
+use Rattle.spell.specs.Contracts.{Inside, ownBytes, ownSize}
 use Rattle.spell.proofs.Shorts.{own-long, own-few}
 use Rattle.writer.specs.Contracts.{Spells, none, next}
 
@@ -76,7 +76,7 @@ module _ (table s : List ℕ) (fit : (i : ℕ) → getD table i 0 < 2 ^ 32) (sho
   short-all : (row stop mid b own rest : ℕ) → row < mid → mid ≤ stop → own ≤ 19 + limit → b ≤ (mid - (row + 1)) * 2 ^ 25 → rest ≤ (stop - mid) * 2 ^ 25 → own + (b + rest) ≤ (stop - row) * 2 ^ 25
   short-all row stop mid b own rest u l o p q = omega arith
 
-  few-whole : (mid row b : ℕ) → mid ≤ limit → b ≤ (mid - (row + 1)) * 2 ^ 25 → b < whole
+  few-whole : (mid row b : ℕ) → mid ≤ limit → b ≤ (mid - (row + 1)) * 2 ^ 25 → b < wideEnd
   few-whole mid row b l h = omega (arith, double-whole)
 
   pub spelled-few : (row stop : ℕ) (bytes : List ℕ) → stop ≤ limit → Spells table s row stop bytes → length bytes ≤ (stop - row) * 2 ^ 25

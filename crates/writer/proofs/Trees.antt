@@ -8,7 +8,7 @@ use native.Mathlib.Omega.{arith}
 use lib.ListN.{length, getD, take, drop}
 use Rattle.wide.proofs.Ranks.{apart}
 use Rattle.rows.specs.declared.row.Row.{Row}
-use Rattle.rows.specs.Table.{wordsPerRow, Own, ownOf, rowAt}
+use Rattle.rows.specs.Table.{wordsPerRow, Own, ownOf, rowAt, aimed}
 use Rattle.rows.specs.Kinds.{holderOwn, referenceOwn}
 use Rattle.format.specs.declared.head.Holder.{Holder}
 use Rattle.format.specs.declared.head.Holder.the-variants.{Array, Record, Map}
@@ -17,18 +17,18 @@ use Rattle.format.specs.declared.head.Children.the-variants.{Entries}
 use Rattle.format.specs.Tree.{Tree, leaf, refer, hold, declare, foreign, damaged, Trees, size, sizes}
 use Rattle.format.specs.Tree as trees
 use Rattle.format.specs.Value.{kindOf, childrenOf, inForeign, isKey}
-use Rattle.format.specs.Layout.{layout, layouts, grown, entries, inBody, aimed}
+use Rattle.format.specs.Layout.{layout, layouts, grown, entries, inBody}
 use Rattle.format.proofs.Layouts.{length-layout, length-layouts, topRow, top-at, size-pos}
 use Rattle.rules.specs.declared.shape.Shape.the-variants as shape
 use Rattle.rules.specs.Shape.{named, shapeOf}
-use Rattle.rules.specs.Fine.{KeyFine, IfKey, Fine, Fines}
+use Rattle.rules.specs.Obeys.{KeyObeys, IfKey, Obeys, ObeyAll}
 use Rattle.rules.proofs.Says.{key-inside, refer-own, hold-own, declare-own, foreign-own, damaged-inside}
 use Rattle.rules.proofs.Regrow.{behind, rest-at}
 use Rattle.encode.specs.Encode.{headOf, hasBytes, encode, encodes}
 use Rattle.encode.proofs.Again.{reference-head}
 use Rattle.encode.proofs.Alike.{leaf-inside}
-use Rattle.plan.specs.Own.{ownHead}
-use Rattle.spell.specs.Own.{Inside, ownBytes}
+use Rattle.plan.specs.Contracts.{ownHead}
+use Rattle.spell.specs.Contracts.{Inside, ownBytes}
 use Rattle.writer.specs.Contracts.{Spells, none, next}
 use Rattle.writer.proofs.Spelling.{spells-append}
 
@@ -105,19 +105,19 @@ module _ (table s : List ℕ) where
 
   -- ---- trees
 
-  key-spells : (t : Tree) (row : ℕ) (registry rest : List ℕ) → KeyFine s t → drop (wordsPerRow * row) table ≡ layout t row registry ++ rest → Spells table s row (row + size t) (encode s t)
+  key-spells : (t : Tree) (row : ℕ) (registry rest : List ℕ) → KeyObeys s t → drop (wordsPerRow * row) table ≡ layout t row registry ++ rest → Spells table s row (row + size t) (encode s t)
   unfolding encode size Inside ownBytes ownHead
   key-spells t row registry rest f h = rw (f .is) (one-spells (leaf (f .own)) row registry rest (rw (f .is) at h) refl (λ _. key-inside s (f .own) (f .fits)) _ refl)
 
-  item-spells : (b : Bool) (t : Tree) (d k row : ℕ) (registry rest : List ℕ) → (Fine s d k t → Spells table s row (row + size t) (encode s t)) → IfKey b (KeyFine s t) (Fine s d k t)
+  item-spells : (b : Bool) (t : Tree) (d k row : ℕ) (registry rest : List ℕ) → (Obeys s d k t → Spells table s row (row + size t) (encode s t)) → IfKey b (KeyObeys s t) (Obeys s d k t)
       → drop (wordsPerRow * row) table ≡ layout t row registry ++ rest → Spells table s row (row + size t) (encode s t)
   item-spells true t d k row registry rest g f h = key-spells t row registry rest f h
   item-spells false t d k row registry rest g f h = g f
 
   mutual
-    unfolding layout size Fine encode Inside ownBytes ownHead
+    unfolding layout size Obeys encode Inside ownBytes ownHead
 
-    pub tree-spells : (t : Tree) (d k row : ℕ) (registry rest : List ℕ) → Fine s d k t → drop (wordsPerRow * row) table ≡ layout t row registry ++ rest → Spells table s row (row + size t) (encode s t)
+    pub tree-spells : (t : Tree) (d k row : ℕ) (registry rest : List ℕ) → Obeys s d k t → drop (wordsPerRow * row) table ≡ layout t row registry ++ rest → Spells table s row (row + size t) (encode s t)
     tree-spells (leaf o) d k row registry rest f h = one-spells (leaf o) row registry rest h refl (leaf-inside s o (f .1)) _ refl
     tree-spells (refer o) d k row registry rest f h =
         let e : ℕ = getD registry (o .w0) 0 in
@@ -148,7 +148,7 @@ module _ (table s : List ℕ) where
         (tree-spells t (d - 1) (inForeign k) (row + 1) (inBody registry) rest (f .2) (rest-at table row registry rest (foreign o t) h)))
     tree-spells (damaged o) d k row registry rest f h = one-spells (damaged o) row registry rest h refl (λ _. damaged-inside s o (f .1)) _ refl
 
-    pub trees-spell : (ts : Trees) (d : ℕ) (c : Children) (k i row : ℕ) (grows : Bool) (registry rest : List ℕ) → Fines s d c k i ts
+    pub trees-spell : (ts : Trees) (d : ℕ) (c : Children) (k i row : ℕ) (grows : Bool) (registry rest : List ℕ) → ObeyAll s d c k i ts
         → drop (wordsPerRow * row) table ≡ layouts ts grows row registry ++ rest → Spells table s row (row + sizes ts) (encodes s ts)
     trees-spell trees.none d c k i row grows registry rest f h = none row (row + 0) [] (sym (add-zero row)) refl
     trees-spell (trees.more t ts) d c k i row grows registry rest f h =

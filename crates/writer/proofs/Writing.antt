@@ -11,12 +11,12 @@ use Rattle.rows.specs.Table.{ownOf, rowAt, lent, limit}
 use Rattle.rows.specs.Kinds.{kindForeign}
 use Rattle.rules.specs.declared.kind.Kind.{Kind}
 use Rattle.rules.proofs.Says.{Names, names}
-use Rattle.encode.specs.Encode.{payload}
+use Rattle.encode.specs.Encode.{payloadOf}
 use Rattle.rules.specs.Shape.{named}
-use Rattle.plan.specs.Own.{ownHead}
-use Rattle.spell.specs.Own.{Inside, ownBytes}
+use Rattle.plan.specs.Contracts.{ownHead}
+use Rattle.spell.specs.Contracts.{Inside, ownBytes}
 use Rattle.spell.proofs.Shorts.{head-any}
-use Rattle.writer.specs.Contracts.{Spells, Spelt, Long, Told, Fits, Laid}
+use Rattle.writer.specs.Contracts.{Spells, Spelt, Long, Told, RoomFor, FrontLaid}
 use Rattle.writer.proofs.Spelling.{First, first, forward, ended, after-first}
 
 -- ---- what a row's own bytes tell of its children
@@ -55,7 +55,7 @@ pub record Writes (table s : List ℕ) (n : ℕ) (out₀ : List ℕ) (row at : �
 pub writes-start : (table s : List ℕ) (n : ℕ) (out₀ : List ℕ) → Writes table s n out₀ 0 0 out₀
 writes-start table s n out₀ = record { long = refl; left = λ bytes h. record { rest = bytes; spells = h; count = omega arith; laid = refl } }
 
-module _ (table s : List ℕ) (n : ℕ) (out₀ : List ℕ) (p : Fits table s n (length out₀)) (row at : ℕ) (out : List ℕ) (c : Writes table s n out₀ row at out) (below : row < n) where
+module _ (table s : List ℕ) (n : ℕ) (out₀ : List ℕ) (p : RoomFor table s n (length out₀)) (row at : ℕ) (out : List ℕ) (c : Writes table s n out₀ row at out) (below : row < n) where
   known : Rest table s n out₀ row at out (p .bytes)
   known = c .left (p .bytes) (p .spells)
 
@@ -63,13 +63,13 @@ module _ (table s : List ℕ) (n : ℕ) (out₀ : List ℕ) (p : Fits table s n 
   opened = first table s row n (known .rest) below (known .spells)
 
   pub row-held : row < lent table
-  row-held = omega (arith, p .held)
+  row-held = omega (arith, p .rows-lent)
 
   module _ (w : Row) (e : w ≡ rowAt table row) where
     pub child-spelt : Spelt table (row + 1) (w .end)
     child-spelt =
         subst (λ (v : Row). Spelt table (row + 1) (v .end)) (sym e)
-        record { held = omega (arith, opened .low, p .held); few = omega (arith, opened .low, p .few); over = s; short = p .short; bytes = opened .body; spells = opened .children }
+        record { rows-lent = omega (arith, opened .low, p .rows-lent); few = omega (arith, opened .low, p .few); over = s; short = p .short; bytes = opened .body; spells = opened .children }
 
     pub row-inside : Inside s w
     row-inside = subst (Inside s) (sym e) (opened .inside)
@@ -78,7 +78,7 @@ module _ (table s : List ℕ) (n : ℕ) (out₀ : List ℕ) (p : Fits table s n 
       own-same : (rest : List ℕ) (f : First table s row n rest) → ownBytes s w size ≡ ownBytes s (rowAt table row) (length (f .body))
       unfolding ownBytes
       own-same rest f =
-          ap (λ (h : List ℕ). h ++ payload s (ownOf w)) (t .told s (f .body) (subst (λ (v : Row). Spells table s (row + 1) (v .end) (f .body)) (sym e) (f .children)))
+          ap (λ (h : List ℕ). h ++ payloadOf s (ownOf w)) (t .told s (f .body) (subst (λ (v : Row). Spells table s (row + 1) (v .end) (f .body)) (sym e) (f .children)))
           ∙ ap (λ (v : Row). ownBytes s v (length (f .body))) e
 
       own-first : (rest : List ℕ) (f : First table s row n rest) → rest ≡ ownBytes s w size ++ (f .body ++ f .rest)
@@ -107,7 +107,7 @@ module _ (table s : List ℕ) (n : ℕ) (out₀ : List ℕ) (p : Fits table s n 
                 };
           }
 
-pub writes-end : (table s : List ℕ) (n : ℕ) (out₀ : List ℕ) (row at : ℕ) (out : List ℕ) → n ≤ row → Writes table s n out₀ row at out → Laid table s n out₀ out
+pub writes-end : (table s : List ℕ) (n : ℕ) (out₀ : List ℕ) (row at : ℕ) (out : List ℕ) → n ≤ row → Writes table s n out₀ row at out → FrontLaid table s n out₀ out
 writes-end table s n out₀ row at out l c =
     record {
       laid =

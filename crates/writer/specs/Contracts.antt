@@ -6,8 +6,8 @@ use lib.ListN.{length}
 use lib.Seq.{sets}
 use Rattle.rows.specs.declared.row.Row.{Row}
 use Rattle.rows.specs.Table.{rowAt, lent, limit}
-use Rattle.plan.specs.Own.{ownHead}
-use Rattle.spell.specs.Own.{Inside, ownBytes}
+use Rattle.plan.specs.Contracts.{ownHead}
+use Rattle.spell.specs.Contracts.{Inside, ownBytes}
 
 -- the rows from `row` to `stop` spell `bytes`: a row's own, those of its children, and those of the rows behind its end
 pub data Spells (table s : List ℕ) : ℕ → ℕ → List ℕ → Type 0 where
@@ -18,7 +18,7 @@ pub data Spells (table s : List ℕ) : ℕ → ℕ → List ℕ → Type 0 where
 
 -- they are rows of the table and spell something, over some data within the limit
 pub record Spelt (table : List ℕ) (row stop : ℕ) : Type 0 where
-  pub held : stop ≤ lent table
+  pub rows-lent : stop ≤ lent table
   pub few : stop ≤ limit
   pub over : List ℕ
   pub short : length over ≤ limit
@@ -34,8 +34,8 @@ pub record Told (table : List ℕ) (row : ℕ) (w : Row) (size : ℕ) : Type 0 w
   pub told : (s bytes : List ℕ) → Spells table s (row + 1) (w .end) bytes → ownHead w size ≡ ownHead w (length bytes)
 
 -- the first n rows spell something over the data s, and an output of that room holds it
-pub record Fits (table s : List ℕ) (n room : ℕ) : Type 0 where
-  pub held : n ≤ lent table
+pub record RoomFor (table s : List ℕ) (n room : ℕ) : Type 0 where
+  pub rows-lent : n ≤ lent table
   pub few : n ≤ limit
   pub short : length s ≤ limit
   pub bytes : List ℕ
@@ -43,5 +43,5 @@ pub record Fits (table s : List ℕ) (n room : ℕ) : Type 0 where
   pub fits : length bytes ≤ room
 
 -- what they spell stands at the front of the output; the rest of it is as it was
-pub record Laid (table s : List ℕ) (n : ℕ) (before after : List ℕ) : Type 0 where
+pub record FrontLaid (table s : List ℕ) (n : ℕ) (before after : List ℕ) : Type 0 where
   pub laid : (bytes : List ℕ) → Spells table s 0 n bytes → after ≡ sets before 0 bytes

@@ -1,12 +1,12 @@
 // Rows stand in document order, so each row's own bytes in turn are the document.
 ghost use lib.ListN.{length};
-ghost use Rattle.writer.specs.Contracts.{Fits, Laid};
+ghost use Rattle.writer.specs.Contracts.{RoomFor, FrontLaid};
 use crate::sizes;
 
 // The bytes of the first n rows at the front of the output.
 pub fn write_rows(table: &[u32], n: usize, data: &[u8], out: &mut [u8])
-    requires { ⌜ Fits (now table) (now «data») n (length (now out)) ⌝ }
-    ensures { λ _. ⌜ Laid (now (table .entry)) (now («data» .entry)) n (now (out .entry)) (now (out .exit)) ⌝ }
+    requires { ⌜ RoomFor (now table) (now «data») n (length (now out)) ⌝ }
+    ensures { λ _. ⌜ FrontLaid (now (table .entry)) (now («data» .entry)) n (now (out .entry)) (now (out .exit)) ⌝ }
 {
     let mut row = 0;
     let mut at = 0;

@@ -2,7 +2,7 @@
 use mathlib.Core.Path.{_≡_}
 use Prim.Native.Nat.{_-_, _≤_}
 use borrow.Author.Needs.{needs}
-use Rattle.registry.specs.Registry.{walk}
+use Rattle.registry.specs.Contracts.{walk}
 use Rattle.registry.proofs.Walks.{walk-start, walk-next, walk-done, walk-lent}
 use Rattle.registry.proofs.entry_row.Statement.{statement}
 use Rattle.registry.proofs.entry_row.Tie as tie

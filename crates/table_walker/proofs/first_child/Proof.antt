@@ -39,7 +39,7 @@ use denote.Triple.Walked.{says, Stays, stay-none, stay-none-slice, walkOf, goes-
 use denote.Exit.{yes}
 use denote.Triple.Clauses.{ensured, lasts}
 use Rattle.walker.specs.Walk.{startOf}
-use Rattle.table_walker.specs.Held.{walkerAt, walkerIn}
+use Rattle.table_walker.specs.TableWalker.{walkerAt, walkerIn}
 use Rattle.table_walker.specs.declared.Walker.{Walker}
 use Rattle.walker.specs.declared.step.Step.{Step}
 use Rattle.table_walker.proofs.Walker as T

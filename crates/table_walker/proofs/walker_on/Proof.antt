@@ -4,7 +4,7 @@ use contract.Running.{givenOf, tables, tablesOf}
 use denote.Triple.Spec.{tripleOf}
 use denote.Triple.Table.{entered, cited}
 use Rattle.walker.specs.Walk.{stepOn}
-use Rattle.table_walker.specs.Held.{walkerOn}
+use Rattle.table_walker.specs.TableWalker.{walkerOn}
 use Rattle.table_walker.proofs.Apart.{Called, meets}
 use Rattle.walker.proofs.on_from.Symbol as called
 use Rattle.walker.proofs.on_from.Symbol.{name as #walker·on-from}

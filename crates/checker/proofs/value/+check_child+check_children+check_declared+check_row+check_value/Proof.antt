@@ -25,7 +25,7 @@ use Rattle.checker.proofs.one.check_key.Reads as check-key-reads
 use Rattle.checker.proofs.one.check_reference.Reads as check-reference-reads
 use Rattle.checker.proofs.one.ends_at.Reads as ends-at-reads
 use Rattle.checker.proofs.one.stands_alone.Reads as stands-alone-reads
-use Rattle.registry.specs.Registry.{firstIn}
+use Rattle.registry.specs.Contracts.{firstIn}
 use Rattle.registry.proofs.base_of.Reads as base-of-reads
 use Rattle.format.proofs.in_foreign.Reads as in-foreign-reads
 use Rattle.format.proofs.head.Children.in_force.Reads as in-force-reads

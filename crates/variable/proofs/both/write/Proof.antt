@@ -8,7 +8,7 @@ use lib.ListN.{length, length-set}
 use Rattle.wide.specs.Number.{bytesOf}
 use Rattle.wide.specs.Words.{valueOf}
 use Rattle.wide.specs.Family.{form}
-use Rattle.wide.specs.Members.{variable}
+use Rattle.wide.specs.Contracts.{variable}
 use Rattle.wide.proofs.Wides.{Words, value-lt}
 use Rattle.wide.proofs.Ranks.{rank-lt, size-high}
 use Rattle.variable.proofs.Variables.{first-low, form-one, form-long}

@@ -1,13 +1,13 @@
 -- `wide::step::filled` meets its contract. Assumes nothing.
 use mathlib.Core.Path.{_≡_, _∙_, ap, sym, refl}
 use mathlib.Core.Bool.{Bool, true}
-use Rattle.wide.specs.Words.{whole, words, wideOf}
+use Rattle.wide.specs.Words.{wideEnd, words, wideOf}
 use Rattle.wide.specs.Body.{extended}
 use Rattle.wide.proofs.step.filled.Statement.{statement}
 use Rattle.wide.proofs.step.filled.Tie as tie
 
 ones : words 4294967295 4294967295 4294967295 4294967295 ≡ wideOf (extended true 0 0)
-unfolding whole wideOf
+unfolding wideEnd wideOf
 ones = refl
 
 zeros : words 0 0 0 0 ≡ wideOf 0

@@ -1,10 +1,10 @@
--- `plan::heads::integer_form` meets its contract. Assumes nothing.
+-- `plan::leads::integer_form` meets its contract. Assumes nothing.
 use Prim.Native.Nat.{_+_, _≤_, _<_}
 use native.Mathlib.Omega.{arith}
 use borrow.Author.Needs.{needs}
 use Rattle.plan.proofs.Plans.{small-form, integer-rank, long-form, first-byte, size-short}
-use Rattle.plan.proofs.heads.integer_form.Statement.{statement}
-use Rattle.plan.proofs.heads.integer_form.Tie as tie
+use Rattle.plan.proofs.leads.integer_form.Statement.{statement}
+use Rattle.plan.proofs.leads.integer_form.Tie as tie
 
 small : (c : tie.After-rank-of) → c .rank-of .result < 8
 small c =

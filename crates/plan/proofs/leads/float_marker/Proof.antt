@@ -1,9 +1,9 @@
--- `plan::heads::float_marker` meets its contract. Assumes nothing.
+-- `plan::leads::float_marker` meets its contract. Assumes nothing.
 use borrow.Author.Needs.{needs}
 use Rattle.encode.specs.Encode.{floatMarker}
 use borrow.Author.Tests.{eq-eqb, ne-eqb}
-use Rattle.plan.proofs.heads.float_marker.Statement.{statement}
-use Rattle.plan.proofs.heads.float_marker.Tie as tie
+use Rattle.plan.proofs.leads.float_marker.Statement.{statement}
+use Rattle.plan.proofs.leads.float_marker.Tie as tie
 
 returns : tie.Need-returns
 unfolding floatMarker

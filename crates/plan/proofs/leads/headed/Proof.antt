@@ -1,10 +1,10 @@
--- `plan::heads::headed` meets its contract. Assumes nothing.
+-- `plan::leads::headed` meets its contract. Assumes nothing.
 use Rattle.plan.proofs.Plans.{from-low, lead-byte, alone-plan, direct-plan, rank-small, body-plan}
 use Prim.Native.Nat.{_+_, _-_, _<_}
 use native.Mathlib.Omega.{arith}
 use borrow.Author.Needs.{needs}
-use Rattle.plan.proofs.heads.headed.Statement.{statement}
-use Rattle.plan.proofs.heads.headed.Tie as tie
+use Rattle.plan.proofs.leads.headed.Statement.{statement}
+use Rattle.plan.proofs.leads.headed.Tie as tie
 
 -- the byte that is the number by itself
 lead : (c : tie.Then1) → c .before .before .args .low + (c .before .before .args .n - c .before .before .args .from) < 256

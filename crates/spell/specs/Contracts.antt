@@ -1,4 +1,5 @@
--- A row's own bytes: those of its value without those of its children. Assumes nothing: these are definitions.
+-- Words of the contracts inside: a row's own bytes, those of its value without those of its children. Definitions only, which no promise to
+-- a user cites.
 use mathlib.Core.Path.{_≡_}
 use mathlib.Core.Bool.{true, cond}
 use mathlib.Core.List.{List, _++_}
@@ -7,12 +8,12 @@ use lib.ListN.{length}
 use Rattle.rows.specs.declared.row.Row.{Row}
 use Rattle.rows.specs.Table.{ownOf}
 use Rattle.rules.specs.Shape.{named}
-use Rattle.encode.specs.Encode.{hasBytes, payload}
-use Rattle.plan.specs.Own.{ownHead}
+use Rattle.encode.specs.Encode.{hasBytes, payloadOf}
+use Rattle.plan.specs.Contracts.{ownHead}
 
 -- what stands before the row's payload or its children, with its payload in the data s
 unfoldable pub ownBytes : List ℕ → Row → ℕ → List ℕ
-ownBytes s w size = ownHead w size ++ payload s (ownOf w)
+ownBytes s w size = ownHead w size ++ payloadOf s (ownOf w)
 
 -- how many they are, where the payload lies in the data
 unfoldable pub ownSize : Row → ℕ → ℕ

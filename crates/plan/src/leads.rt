@@ -4,11 +4,11 @@ ghost use mathlib.Core.List.{[], _∷_};
 ghost use Prim.Native.Nat.{_+_, _/_, _%_, _≤_};
 ghost use lib.Dec.{ltb};
 ghost use Rattle.wide.specs.Number.{bytesOf};
-ghost use Rattle.wide.specs.Words.{whole, valueOf};
+ghost use Rattle.wide.specs.Words.{wideEnd, valueOf};
 ghost use Rattle.wide.specs.Family.{behind, form};
 ghost use Rattle.wide.specs.Members.{run, headed, integer};
 ghost use Rattle.encode.specs.Encode.{floatMarker};
-ghost use Rattle.plan.specs.Plan.{marked, Plans, Formed};
+ghost use Rattle.plan.specs.Contracts.{marksOf, Plans, Formed};
 use crate::plan::Plan;
 use wide::Wide;
 
@@ -49,7 +49,7 @@ pub fn alone(lead: u8) -> Plan
 // Whether n is one of the `count` numbers from `from` on.
 fn is_alone(count: usize, from: usize, n: usize) -> bool
     requires { ⌜ (count ≤ 256) × (from ≤ 1) ⌝ }
-    ensures { λ r. ⌜ r ≡ ltb (behind whole from n) count ⌝ }
+    ensures { λ r. ⌜ r ≡ ltb (behind wideEnd from n) count ⌝ }
 {
     if n < from {
         return false;
@@ -68,7 +68,7 @@ pub fn headed(
     n: usize,
 ) -> Plan
     requires { ⌜ (low + count ≤ 256) × (from ≤ 1) × (marks ≤ 2) ⌝ }
-    ensures { λ r. ⌜ Plans r (form (headed (run low count from) (marked marks first second)) n) ⌝ }
+    ensures { λ r. ⌜ Plans r (form (headed (run low count from) (marksOf marks first second)) n) ⌝ }
 {
     if is_alone(count, from, n) {
         return alone((low as usize + (n - from)) as u8);

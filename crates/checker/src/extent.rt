@@ -1,5 +1,5 @@
 // How a tree stands in the table: until the row behind it, or a row rule is broken.
-pub enum Standing {
+pub enum Extent {
     Until { next: usize },
     Broken,
 }

@@ -14,7 +14,7 @@ use Rattle.format.specs.Value.{wrong, childCount, childrenOf, inForeign, value,
 use Rattle.format.specs.Layout.{isEntry, layout}
 use Rattle.rules.specs.declared.shape.Shape.the-variants.{Leaf, Refer, Hold, Declare, Whole, Damaged}
 use Rattle.rules.specs.Shape.{shapeOf, keyFits}
-use Rattle.format.specs.Refusal.{numberOf as refusalNumber}
+use Rattle.format.specs.Refusal.{refusalNumber}
 
 -- "a damaged row's verdict is what reading those bytes there gives": k entries are in force in the body, and `levels` levels are left
 pub record Spoilt (s : List ℕ) (levels k : ℕ) (o : Own) : Type 0 where
@@ -24,7 +24,7 @@ pub record Spoilt (s : List ℕ) (levels k : ℕ) (o : Own) : Type 0 where
   pub verdict : o .w2 ≡ refusalNumber why
 
 -- a record's key: a leaf
-pub record KeyFine (s : List ℕ) (t : Tree) : Type 0 where
+pub record KeyObeys (s : List ℕ) (t : Tree) : Type 0 where
   pub own : Own
   pub is : t ≡ leaf own
   pub fits : keyFits s own ≡ true
@@ -40,29 +40,29 @@ after false k = k
 
 -- a tree at a position with `levels` levels left, its own with them, where k entries are in force
 unfoldable mutual
-  pub Fine : List ℕ → ℕ → ℕ → Tree → Type 0
-  Fine s levels k (leaf o) = (0 < levels) × (shapeOf s o ≡ Leaf)
+  pub Obeys : List ℕ → ℕ → ℕ → Tree → Type 0
+  Obeys s levels k (leaf o) = (0 < levels) × (shapeOf s o ≡ Leaf)
   -- the row of its entry is told by where it stands
-  Fine s levels k (refer o) = (0 < levels) × (shapeOf s o ≡ Refer) × (o .w1 ≡ 0) × (o .w0 < k)
+  Obeys s levels k (refer o) = (0 < levels) × (shapeOf s o ≡ Refer) × (o .w1 ≡ 0) × (o .w0 < k)
   -- "in the number the holder says (a record: key and value in turn; a map: two an entry"
-  Fine s levels k (hold o ts) =
-      (0 < levels) × ((h : Holder) × (shapeOf s o ≡ Hold h) × (many ts ≡ childCount h (o .w0)) × Fines s (levels - 1) (childrenOf h) k 0 ts)
-  Fine s levels k (declare o es t) =
-      (0 < levels) × (shapeOf s o ≡ Declare) × (many es ≡ o .w0) × Fines s (levels - 1) Entries 0 0 es × Fine s (levels - 1) (o .w0) t
-  Fine s levels k (foreign o t) = (0 < levels) × (shapeOf s o ≡ Whole) × Fine s (levels - 1) (inForeign k) t
-  Fine s levels k (damaged o) = (0 < levels) × (shapeOf s o ≡ Damaged) × Spoilt s (levels - 1) (inForeign k) o
+  Obeys s levels k (hold o ts) =
+      (0 < levels) × ((h : Holder) × (shapeOf s o ≡ Hold h) × (many ts ≡ childCount h (o .w0)) × ObeyAll s (levels - 1) (childrenOf h) k 0 ts)
+  Obeys s levels k (declare o es t) =
+      (0 < levels) × (shapeOf s o ≡ Declare) × (many es ≡ o .w0) × ObeyAll s (levels - 1) Entries 0 0 es × Obeys s (levels - 1) (o .w0) t
+  Obeys s levels k (foreign o t) = (0 < levels) × (shapeOf s o ≡ Whole) × Obeys s (levels - 1) (inForeign k) t
+  Obeys s levels k (damaged o) = (0 < levels) × (shapeOf s o ≡ Damaged) × Spoilt s (levels - 1) (inForeign k) o
 
   -- children of the sort c, the first of them number i
-  pub Fines : List ℕ → ℕ → Children → ℕ → ℕ → Trees → Type 0
-  Fines s levels c k i none = Unit {0}
-  Fines s levels c k i (more t ts) = IfKey (isKey c i) (KeyFine s t) (Fine s levels k t) × Fines s levels c (after (isEntry c) k) (i + 1) ts
+  pub ObeyAll : List ℕ → ℕ → Children → ℕ → ℕ → Trees → Type 0
+  ObeyAll s levels c k i none = Unit {0}
+  ObeyAll s levels c k i (more t ts) = IfKey (isKey c i) (KeyObeys s t) (Obeys s levels k t) × ObeyAll s levels c (after (isEntry c) k) (i + 1) ts
 
 -- the first n rows of the table are those of the right tree t over the data s, with positions down to `depth`
 pub record Stands (depth : ℕ) (table : List ℕ) (n : ℕ) (s : List ℕ) (t : Tree) : Type 0 where
   pub some : 1 ≤ n
   pub few : n ≤ limit
-  pub held : n ≤ lent table
+  pub rows-lent : n ≤ lent table
   pub short : length s ≤ limit
   pub rows : size t ≡ n
   pub words : take (wordsPerRow * n) table ≡ layout t 0 []
-  pub fine : Fine s (suc depth) 0 t
+  pub fine : Obeys s (suc depth) 0 t

@@ -1,4 +1,5 @@
--- The registry in force, as two numbers and the table: its base, which tells the first entry's row, and how many are in force. Definitions only.
+-- Words of the contracts inside: the registry in force, as two numbers and the table: its base, which tells the first entry's row, and how
+-- many are in force. Definitions only, which no promise to a user cites.
 use mathlib.Core.Path.{_≡_}
 use mathlib.Core.Bool.{cond}
 use Prim.Native.Nat.{ℕ, zero, suc, _+_, _-_, _%_, _≤_, _<_}

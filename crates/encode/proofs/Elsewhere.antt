@@ -33,9 +33,9 @@ use Rattle.format.specs.declared.head.Head.{Head}
 use Rattle.format.specs.declared.head.Head.the-variants.{Leaf, Hold, Refer, Declare, Foreign, Refuse}
 use Rattle.format.specs.declared.head.Children.{Children}
 use Rattle.format.specs.declared.head.Children.the-variants.{Entries}
-use Rattle.format.specs.Head.{Marker, constant, float, text, array, entries, map, binary, special, nothing, signedBody, unsignedBody, small, char, reference, markerOf, countOf, countAt, bodied, spelled, spelling, spellingOf, textHead, codepoint, charBody, charHead, floatSize, withCount, declareHead, foreignHead, secondHead, specialHead, stands, headAt, keyAt}
+use Rattle.format.specs.Head.{Marker, constant, float, text, array, entries, map, binary, special, nothing, signedBody, unsignedBody, small, char, reference, markerOf, countOf, countAt, bodied, spelled, spelling, spellingOf, textHead, codepoint, charBody, charHead, floatSize, withCount, declareHead, foreignHead, secondHead, specialHead, headBy, headAt, keyAt}
 use Rattle.format.specs.Tree.{Tree, Trees}
-use Rattle.format.specs.Value.{Reading, right, wrong, Run, ran, broke, Reader, kindOf, childCount, childrenOf, keyed, isKey, inForce, inTurn, child, ahead, follow, run, held, referred, closed, declaring, whole, framed, inForeign, step, value}
+use Rattle.format.specs.Value.{Reading, right, wrong, Readings, ran, broke, Reader, kindOf, childCount, childrenOf, keyed, isKey, inForce, inTurn, child, ahead, follow, readings, holding, referred, closed, declaring, whole, framed, inForeign, step, value}
 use Rattle.format.proofs.Heads.{Counted, counted, Stood, head-stood}
 use Rattle.format.proofs.Values.{ReadAt, RunAt, values-child, values-run}
 
@@ -58,7 +58,7 @@ abbrev pub told : ℕ → Reading → Outcome
 told o (right t next) = went (next - o)
 told o (wrong e place) = failed e
 
-abbrev toldRun : ℕ → Run → Outcome
+abbrev toldRun : ℕ → Readings → Outcome
 toldRun o (ran ts next) = went (next - o)
 toldRun o (broke e place) = failed e
 
@@ -219,8 +219,8 @@ module _ (s : List ℕ) (o n : ℕ) where
         (ap (λ (y : ℕ). outline o (secondHead s (o + at) (o + stop) y)) (ap (λ (k : ℕ). getD s k 0) q ∙ byte-same (at + 1) (omega (arith, ltb-true (at + 1) stop b))) ∙ second-same (getD x (at + 1) 0)))
         (λ b. rw (le-ltb (o + at + 1) (o + stop) (omega (arith, ltb-false (at + 1) stop b)), b) refl)
 
-    stands-same : (b : ℕ) (m : Marker) → outline o (stands s (o + at) (o + stop) b m) ≡ outline 0 (stands x at stop b m)
-    unfolding stands
+    stands-same : (b : ℕ) (m : Marker) → outline o (headBy s (o + at) (o + stop) b m) ≡ outline 0 (headBy x at stop b m)
+    unfolding headBy
     stands-same b constant = let e : o + at + 1 - o ≡ at + 1 - 0 = omega arith in ap (Leaf (holds.Constant 0)) e
     stands-same b small = let e : o + at + 1 - o ≡ at + 1 - 0 = omega arith in ap (Leaf (holds.Constant 0)) e
     stands-same b signedBody = body-at (sizeAt (b - 0x10)) (holds.Integer true (o + at + 1) (sizeAt (b - 0x10))) (holds.Integer true (at + 1) (sizeAt (b - 0x10)))
@@ -243,7 +243,7 @@ module _ (s : List ℕ) (o n : ℕ) where
       (λ b.
       let h : at < stop = ltb-true at stop b in
       rw (lt-ltb (o + at) (o + stop) (omega arith), b)
-      (ap (λ (y : ℕ). outline o (stands s (o + at) (o + stop) y (markerOf y))) (byte-same at (omega arith)) ∙ stands-same at stop h l (getD x at 0) (markerOf (getD x at 0))))
+      (ap (λ (y : ℕ). outline o (headBy s (o + at) (o + stop) y (markerOf y))) (byte-same at (omega arith)) ∙ stands-same at stop h l (getD x at 0) (markerOf (getD x at 0))))
       (λ b. rw (le-ltb (o + at) (o + stop) (omega (arith, ltb-false at stop b)), b) refl)
 
   key-same : (at stop : ℕ) → at ≤ stop → stop ≤ n → keyAt s (o + at) (o + stop) ≡ further (keyAt x at stop)
@@ -256,11 +256,11 @@ module _ (s : List ℕ) (o n : ℕ) where
 
 -- ---- what follows a head, by its outline
 
-held-told : (o : ℕ) (w : Own) (q : Run) → told o (held w q) ≡ toldRun o q
+held-told : (o : ℕ) (w : Own) (q : Readings) → told o (holding w q) ≡ toldRun o q
 held-told o w (ran ts next) = refl
 held-told o w (broke e p) = refl
 
-ahead-told : (o : ℕ) (t : Tree) (q : Run) → toldRun o (ahead t q) ≡ toldRun o q
+ahead-told : (o : ℕ) (t : Tree) (q : Readings) → toldRun o (ahead t q) ≡ toldRun o q
 ahead-told o t (ran ts next) = refl
 ahead-told o t (broke e p) = refl
 
@@ -312,9 +312,9 @@ after false j = failed why.NoEntry
 -- `stop` is where the bytes around it end
 abbrev stepO : ℕ → Reader → List ℕ → ℕ → ℕ → Head → Outcome
 stepO o R s k stop (Leaf c j) = went j
-stepO o R s k stop (Hold h m j) = toldRun o (run R (childrenOf h) s k 0 (childCount h m) (o + j) stop)
+stepO o R s k stop (Hold h m j) = toldRun o (readings R (childrenOf h) s k 0 (childCount h m) (o + j) stop)
 stepO o R s k stop (Refer m j) = after (ltb m k) j
-stepO o R s k stop (Declare m j) = told o (declaring m (run R Entries s 0 0 m (o + j) stop) R stop)
+stepO o R s k stop (Declare m j) = told o (declaring m (readings R Entries s 0 0 m (o + j) stop) R stop)
 stepO o R s k stop (Foreign p m) = went (p + m)
 stepO o R s k stop (Refuse e p) = failed e
 
@@ -323,7 +323,7 @@ unfolding step
 step-told o R s k at stop (Leaf c next) p = refl
 step-told o R s k at stop (Hold h m next) p =
     let e : next ≡ o + (next - o) = omega arith in
-    held-told o (holderOwn (kindOf h) m) (run R (childrenOf h) s k 0 (childCount h m) next stop) ∙ ap (λ (j : ℕ). toldRun o (run R (childrenOf h) s k 0 (childCount h m) j stop)) e
+    held-told o (holderOwn (kindOf h) m) (readings R (childrenOf h) s k 0 (childCount h m) next stop) ∙ ap (λ (j : ℕ). toldRun o (readings R (childrenOf h) s k 0 (childCount h m) j stop)) e
 step-told o R s k at stop (Refer m next) p = go (ltb m k)
   where
     go : (b : Bool) → told o (referred b m at next) ≡ after b (next - o)
@@ -331,7 +331,7 @@ step-told o R s k at stop (Refer m next) p = go (ltb m k)
     go false = refl
 step-told o R s k at stop (Declare m next) p =
     let e : next ≡ o + (next - o) = omega arith in
-    ap (λ (j : ℕ). told o (declaring m (run R Entries s 0 0 m j stop) R stop)) e
+    ap (λ (j : ℕ). told o (declaring m (readings R Entries s 0 0 m j stop) R stop)) e
 step-told o R s k at stop (Foreign place m) p =
     let e : place + m - o ≡ place - o + m = omega arith in
     framed-told o place m (whole (place + m) (R (inForeign k) place (place + m))) ∙ ap went e
@@ -339,7 +339,7 @@ step-told o R s k at stop (Refuse e place) p = refl
 
 -- ---- one level down
 
-follow-same : (o at : ℕ) (stop : ℕ) (y y′ : Reading) → ReadAt (o + at) (o + stop) y → ReadAt at stop y′ → told o y ≡ told 0 y′ → (rest rest′ : ℕ → Run)
+follow-same : (o at : ℕ) (stop : ℕ) (y y′ : Reading) → ReadAt (o + at) (o + stop) y → ReadAt at stop y′ → told o y ≡ told 0 y′ → (rest rest′ : ℕ → Readings)
     → ((j : ℕ) → j ≤ stop → toldRun o (rest (o + j)) ≡ toldRun 0 (rest′ j)) → toldRun o (follow y rest) ≡ toldRun 0 (follow y′ rest′)
 follow-same o at stop (right t m) (right t′ m′) g g′ e rest rest′ f =
     let q : m - o ≡ m′ - 0 = cc in
@@ -349,7 +349,7 @@ follow-same o at stop (right t m) (wrong a p) g g′ e rest rest′ f = absurd (
 follow-same o at stop (wrong a p) (right t m) g g′ e rest rest′ f = absurd (let z : _≡_ {A = ℕ} 0 1 = cc in omega arith)
 follow-same o at stop (wrong a p) (wrong b q) g g′ e rest rest′ f = let z : a ≡ b = cc in ap failed z
 
-declaring-same : (o at stop m : ℕ) (q q′ : Run) → RunAt (o + at) (o + stop) q → RunAt at stop q′ → toldRun o q ≡ toldRun 0 q′ → (R R′ : Reader)
+declaring-same : (o at stop m : ℕ) (q q′ : Readings) → RunAt (o + at) (o + stop) q → RunAt at stop q′ → toldRun o q ≡ toldRun 0 q′ → (R R′ : Reader)
     → ((j : ℕ) → told o (R m (o + j) (o + stop)) ≡ told 0 (R′ m j stop)) → told o (declaring m q R (o + stop)) ≡ told 0 (declaring m q′ R′ stop)
 declaring-same o at stop m (ran es a) (ran es′ a′) g g′ e R R′ f =
     let q : a - o ≡ a′ - 0 = cc in
@@ -371,8 +371,8 @@ module _ (s : List ℕ) (o n d : ℕ) (same : (k at stop : ℕ) → stop ≤ n �
   unfolding child
   child-same c k i at stop h l = turn-same (isKey c i) (inForce c k i) at stop h l
 
-  run-same : (c : Children) (k i m at stop : ℕ) → at ≤ stop → stop ≤ n → toldRun o (run (value d s) c s k i m (o + at) (o + stop)) ≡ toldRun 0 (run (value d y) c y k i m at stop)
-  unfolding run
+  run-same : (c : Children) (k i m at stop : ℕ) → at ≤ stop → stop ≤ n → toldRun o (readings (value d s) c s k i m (o + at) (o + stop)) ≡ toldRun 0 (readings (value d y) c y k i m at stop)
+  unfolding readings
   run-same c k i zero at stop h l = let e : o + at - o ≡ at - 0 = omega arith in ap went e
   run-same c k i (suc m) at stop h l =
       follow-same o at stop (child c (value d s) s k i (o + at) (o + stop)) (child c (value d y) y k i at stop)
@@ -382,12 +382,12 @@ module _ (s : List ℕ) (o n d : ℕ) (same : (k at stop : ℕ) → stop ≤ n �
   stepO-same : (k stop : ℕ) → stop ≤ n → (h : Head) → Within stop h → stepO o (value d s) s k (o + stop) h ≡ stepO 0 (value d y) y k stop h
   stepO-same k stop l (Leaf c j) w = refl
   stepO-same k stop l (Hold h m j) w =
-      run-same (childrenOf h) k 0 (childCount h m) j stop w l ∙ ap (λ (i : ℕ). toldRun 0 (run (value d y) (childrenOf h) y k 0 (childCount h m) i stop)) (sym (zero-add j))
+      run-same (childrenOf h) k 0 (childCount h m) j stop w l ∙ ap (λ (i : ℕ). toldRun 0 (readings (value d y) (childrenOf h) y k 0 (childCount h m) i stop)) (sym (zero-add j))
   stepO-same k stop l (Refer m j) w = refl
   stepO-same k stop l (Declare m j) w =
-      declaring-same o j stop m (run (value d s) Entries s 0 0 m (o + j) (o + stop)) (run (value d y) Entries y 0 0 m j stop)
+      declaring-same o j stop m (readings (value d s) Entries s 0 0 m (o + j) (o + stop)) (readings (value d y) Entries y 0 0 m j stop)
       (values-run d Entries s 0 0 m (o + j) (o + stop) (omega arith)) (values-run d Entries y 0 0 m j stop w) (run-same Entries 0 0 m j stop w l) (value d s) (value d y) (λ i. same m i stop l)
-      ∙ ap (λ (i : ℕ). told 0 (declaring m (run (value d y) Entries y 0 0 m i stop) (value d y) stop)) (sym (zero-add j))
+      ∙ ap (λ (i : ℕ). told 0 (declaring m (readings (value d y) Entries y 0 0 m i stop) (value d y) stop)) (sym (zero-add j))
   stepO-same k stop l (Foreign p m) w = refl
   stepO-same k stop l (Refuse e p) w = refl
 
