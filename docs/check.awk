@@ -66,12 +66,14 @@ function placed(name, slash, rest, dot) {
     return (from, rest) in edit
 }
 
-# File.name of any crate
+# File.name of any crate; many crates have a Contracts, and that is the one of the section's crate
 function spelled(name, dot, c) {
     dot = index(name, ".")
     within = substr(name, 1, dot - 1)
-    from = ""
+    from = within == "Contracts" ? section : ""
     how = "file"
+    if (from != "")
+        return (from, within, substr(name, dot + 1)) in has
     return (within, substr(name, dot + 1)) in anywhere
 }
 

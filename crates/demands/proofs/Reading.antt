@@ -17,7 +17,7 @@ use Rattle.rules.specs.Obeys.{Stands}
 use Rattle.rules.proofs.Exact.{yes-stands, laid-out, stands-yes, accepted, read-stands}
 use Rattle.encode.specs.Encode.{encode}
 use Rattle.encode.proofs.Placed.{placed}
-use Rattle.encode.specs.Said.{said}
+use Rattle.encode.proofs.Said.{said}
 use Rattle.encode.proofs.Worded.{Worded}
 use Rattle.encode.proofs.Alike as written
 use Rattle.encode.proofs.Shortest as shortest
@@ -42,14 +42,14 @@ module _ (depth : ℕ) (table : List ℕ) (n : ℕ) (s : List ℕ) (fit : (i : �
   is = stands-document depth table n s t st
 
   worded : Worded t
-  worded = tree-worded table s n (st .few) fit t (suc depth) 0 0 [] (drop (wordsPerRow * n) table) (omega arith) (st .fine) (laid-out depth table n s t st) (omega (arith, st .rows))
+  worded = tree-worded table s n (st .few) fit t (suc depth) 0 0 [] (drop (wordsPerRow * n) table) (omega arith) (st .obeys) (laid-out depth table n s t st) (omega (arith, st .rows))
 
   module _ (few : length D ≤ limit) where
     small : length (encode s t) ≤ limit
     small = omega (arith, few, ap length is)
 
     reads : document depth D ≡ right (placed s t 0) (length D)
-    reads = subst (λ (x : List ℕ). document depth x ≡ right (placed s t 0) (length x)) (sym is) (written.reads-back depth s t (st .fine) worded small)
+    reads = subst (λ (x : List ℕ). document depth x ≡ right (placed s t 0) (length x)) (sym is) (written.reads-back depth s t (st .obeys) worded small)
 
     module _ (back : List ℕ) (room : n ≤ lent back) where
       rows : size (placed s t 0) ≡ n
@@ -64,12 +64,12 @@ module _ (depth : ℕ) (table : List ℕ) (n : ℕ) (s : List ℕ) (fit : (i : �
       stands-back = read-stands depth D back n accepted-back (placed s t 0) (length D) reads
 
       says-same : said D (placed s t 0) ≡ said s t
-      says-same = subst (λ (x : List ℕ). said x (placed s t 0) ≡ said s t) (sym is) (written.says-same depth s t (st .fine) worded small)
+      says-same = subst (λ (x : List ℕ). said x (placed s t 0) ≡ said s t) (sym is) (written.says-same depth s t (st .obeys) worded small)
 
       -- and gives the same rows, places aside, with the same payload bytes
       pub rows-back : SameRows table s (tableAfter depth D back) D n
       rows-back i l =
-          tree-same s D table (tableAfter depth D back) t (suc depth) 0 (st .fine) 0 0 [] (drop (wordsPerRow * n) table) (drop (wordsPerRow * n) (tableAfter depth D back)) says-same (laid-out depth table n s t st)
+          tree-same s D table (tableAfter depth D back) t (suc depth) 0 (st .obeys) 0 0 [] (drop (wordsPerRow * n) table) (drop (wordsPerRow * n) (tableAfter depth D back)) says-same (laid-out depth table n s t st)
           (laid-out depth (tableAfter depth D back) n D (placed s t 0) stands-back) i (omega arith) (omega (arith, l, st .rows))
 
       -- which obey the row rules

@@ -19,7 +19,7 @@ use Rattle.rules.specs.Obeys.{KeyObeys, IfKey, Obeys, ObeyAll}
 use Rattle.rules.proofs.Regrow.{behind, rest-at}
 use Rattle.encode.specs.Encode.{headOf, payloadOf, moved, encode, encodes}
 use Rattle.encode.proofs.Placed.{placed, placeds}
-use Rattle.encode.specs.Said.{one, said, saids}
+use Rattle.encode.proofs.Said.{one, said, saids}
 use Rattle.encode.proofs.Places.{moved-again}
 use Rattle.writer.proofs.Trees.{Bare, hold-bare, declare-bare, foreign-bare, refer-bare}
 use Rattle.demands.specs.Alike.{SameRow}

@@ -22,8 +22,8 @@ use Rattle.rules.proofs.Exact.{laid-out}
 use Rattle.rules.proofs.Regrow.{behind, rest-at}
 use Rattle.rules.proofs.Says.{aimed-shape}
 use Rattle.encode.specs.Encode.{hasBytes, payloadOf, moved}
-use Rattle.encode.specs.Said.{Said, one, over, under, said, saids}
-use Rattle.encode.specs.Said as says
+use Rattle.encode.proofs.Said.{Said, one, over, under, said, saids}
+use Rattle.encode.proofs.Said as says
 use Rattle.encode.proofs.Places.{moved-named, moved-bare}
 use Rattle.encode.proofs.Again.{told-of}
 use Rattle.writer.proofs.Trees.{Bare, hold-bare, declare-bare, foreign-bare, refer-bare}
@@ -225,4 +225,4 @@ stands-say depth depth′ table table′ n s s′ t u st st′ e =
     let rest′ : List ℕ = drop (wordsPerRow * n) table′ in
     let x = laid-out depth table n s t st in
     let x′ = laid-out depth′ table′ n s′ u st′ in
-    tree-says s s′ table table′ t u (suc depth) 0 (suc depth′) 0 (st .fine) (st′ .fine) (tree-beside s s′ table table′ t (suc depth) 0 (st .fine) (suc depth′) 0) 0 [] [] rest rest′ x x′ (λ i l g. e i (omega (arith, st .rows))) .0
+    tree-says s s′ table table′ t u (suc depth) 0 (suc depth′) 0 (st .obeys) (st′ .obeys) (tree-beside s s′ table table′ t (suc depth) 0 (st .obeys) (suc depth′) 0) 0 [] [] rest rest′ x x′ (λ i l g. e i (omega (arith, st .rows))) .0

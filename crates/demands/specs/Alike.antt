@@ -1,4 +1,4 @@
--- When two tables say the same. Assumes nothing: these are definitions.
+-- When two tables have the same rows, places aside. Assumes nothing: these are definitions.
 use mathlib.Core.Path.{_≡_}
 use mathlib.Core.List.{List}
 use Prim.Native.Nat.{ℕ, _<_}

@@ -24,7 +24,7 @@ use Rattle.rules.proofs.Judged.{inside-within, span-within}
 use Rattle.rules.proofs.Says.{spelt-within, key-inside, damaged-inside}
 use Rattle.encode.specs.Encode.{headOf, hasBytes, payloadOf, moved, encode, encodes}
 use Rattle.encode.proofs.Placed.{placed, placeds}
-use Rattle.encode.specs.Said.{Said, one, over, under, none, more, said, saids}
+use Rattle.encode.proofs.Said.{Said, one, over, under, none, more, said, saids}
 use Rattle.encode.proofs.Fronts.{Stand, stand-first, stand-second}
 use Rattle.encode.proofs.Leaves.{payload-there}
 use Rattle.encode.proofs.Places.{moved-again, moved-payload}
@@ -53,7 +53,7 @@ fits-inside s o Reference b f = absurd (no-true b)
 fits-inside s o Declaration b f = absurd (no-true b)
 fits-inside s o Whole b f = absurd (no-true b)
 fits-inside s o Damaged b f = inside-within s o (and-second (blank 0 0 0 (o .w3)) (inside s (o .w0) (o .w1)) f)
-fits-inside s o Key b f = absurd (no-true f)
+fits-inside s o Key b f = spelt-within s o f
 fits-inside s o Unknown b f = absurd (no-true f)
 
 pub leaf-inside : (s : List ℕ) (o : Own) → shapeOf s o ≡ shape.Leaf → hasBytes (named o) ≡ true → o .w0 + o .w1 ≤ length s

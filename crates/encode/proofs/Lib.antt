@@ -10,3 +10,4 @@ pub mod Least
 pub mod Shortest
 pub mod Worded
 pub mod Placed
+pub mod Said

@@ -15,7 +15,7 @@ use Rattle.rules.specs.declared.kind.Kind.the-variants.{Constant, Small, Signed
 use Rattle.rules.specs.Shape.{named}
 use Rattle.encode.specs.Encode.{headFor, headOf, hasBytes, payloadOf, moved, encode, encodes}
 use Rattle.encode.proofs.Places.{movedIf}
-use Rattle.encode.specs.Said.{Said, one, over, under, Saids, none, more, said, saids}
+use Rattle.encode.proofs.Said.{Said, one, over, under, Saids, none, more, said, saids}
 use Rattle.encode.proofs.Places.{moved-named}
 use Rattle.encode.proofs.Least.{document-least}
 

@@ -90,7 +90,7 @@ module _ (depth : ℕ) (table : List ℕ) (n : ℕ) (s : List ℕ) where
             short = leb-true (length s) limit (and-first (leb (length s) limit) E d);
             rows = z;
             words = ap (take (wordsPerRow * n)) (stood .words) ∙ take-at (layout t 0 []) (drop (wordsPerRow * n) table) (wordsPerRow * n) l;
-            fine = stood .fine;
+            obeys = stood .obeys;
           },
         )
 
@@ -103,7 +103,7 @@ module _ (depth : ℕ) (table : List ℕ) (n : ℕ) (s : List ℕ) where
 
     pub stands-grows : grow table n s (suc depth) [] 0 ≡ grew t n
     stands-grows =
-        regrow table n s t (suc depth) 0 [] (drop (wordsPerRow * n) table) (st .fine) laid-out (omega (arith, st .rows))
+        regrow table n s t (suc depth) 0 [] (drop (wordsPerRow * n) table) (st .obeys) laid-out (omega (arith, st .rows))
         ∙ ap (grew t) (zero-add (size t) ∙ st .rows)
 
     -- a table whose first n rows are those of a right tree gets a yes
@@ -167,7 +167,7 @@ module _ (depth : ℕ) (s table : List ℕ) (n : ℕ) (said : answer depth s tab
         short = r .short;
         rows = r .rows;
         words = ap (take (wordsPerRow * n)) (after ∙ sets-front Z L m) ∙ take-at L (drop (length L) Z) (wordsPerRow * n) l;
-        fine = document-fine depth s (r .tree) (r .next) (r .is);
+        obeys = document-fine depth s (r .tree) (r .next) (r .is);
       }
 
   -- the table that the reader leaves has the rows of the document's tree

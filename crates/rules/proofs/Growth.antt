@@ -36,7 +36,7 @@ pub record Grew (F : Tree → Type 0) (table : List ℕ) (n : ℕ) (registry : L
   pub within : e ≤ n
   pub last : rowAt table row .end ≡ e
   pub words : drop (wordsPerRow * row) table ≡ layout t row registry ++ drop (wordsPerRow * e) table
-  pub fine : F t
+  pub obeys : F t
 
 -- trees in a row, the first of them number i of a holder of the sort c; d levels are left
 pub record GrewAll (s : List ℕ) (d : ℕ) (c : Children) (table : List ℕ) (n : ℕ) (registry : List ℕ) (i count row : ℕ) (ts : Trees) (e : ℕ) : Type 0 where
@@ -108,7 +108,7 @@ module _ (table : List ℕ) (n : ℕ) (s : List ℕ) (room : n ≤ lent table) w
         within = omega arith;
         last = e;
         words = row-first row h ∙ ap (λ (x : List ℕ). x ++ drop (wordsPerRow * (row + 1)) table) (g e);
-        fine = f;
+        obeys = f;
       }
 
   leaf-inner : (F : Tree → Type 0) (registry : List ℕ) (row : ℕ) → row < n → F (leaf (ownOf (rowAt table row)))
@@ -150,7 +150,7 @@ module _ (table : List ℕ) (n : ℕ) (s : List ℕ) (room : n ≤ lent table) w
               glue (layout t row registry) (layout t row registry) (layouts ts (isEntry c) m R) (drop (wordsPerRow * e) table) (a .words) refl (b .words)
               ∙ ap (λ (x : ℕ). (layout t row registry ++ layouts ts (isEntry c) x R) ++ drop (wordsPerRow * e) table) (a .past);
           number = ap suc (b .number);
-          fines = (a .fine, subst (λ (k : ℕ). ObeyAll s d c k (i + 1) ts) (length-grown (isEntry c) registry row) (b .fines));
+          fines = (a .obeys, subst (λ (k : ℕ). ObeyAll s d c k (i + 1) ts) (length-grown (isEntry c) registry row) (b .fines));
         }
 
     then-sound : (c : Children) (i count : ℕ) (registry : List ℕ) (row : ℕ) (p : Growth) → Sound (ItemFine (isKey c i) registry) table n registry row p
@@ -220,7 +220,7 @@ module _ (table : List ℕ) (n : ℕ) (s : List ℕ) (room : n ≤ lent table) w
             words =
                 over (hold o ts) e past′ (layouts ts false (row + 1) registry)
                 (subst (λ (z : Bool). drop (wordsPerRow * (row + 1)) table ≡ layouts ts z (row + 1) registry ++ drop (wordsPerRow * e) table) (no-entry x) (b .words)) l;
-            fine = (omega arith, (x, y, b .number, subst (λ (z : ℕ). ObeyAll s z (childrenOf x) (length registry) 0 ts) (sym (down d)) (b .fines)));
+            obeys = (omega arith, (x, y, b .number, subst (λ (z : ℕ). ObeyAll s z (childrenOf x) (length registry) 0 ts) (sym (down d)) (b .fines)));
           }
 
       value-sound : shapeOf s o ≡ Declare → (es : Trees) (m : ℕ) → GrewAll s d Entries table n [] 0 (o .w0) (row + 1) es m → (p : Growth)
@@ -240,12 +240,12 @@ module _ (table : List ℕ) (n : ℕ) (s : List ℕ) (room : n ≤ lent table) w
                 over (declare o es t) e past′ (layouts es true (row + 1) [] ++ layout t (row + 1 + sizes es) A)
                 (glue (layouts es true (row + 1) []) (layouts es true (row + 1) []) (layout t (row + 1 + sizes es) A) (drop (wordsPerRow * e) table) (b .words) refl
                 (g .words ∙ ap (λ (x : ℕ). layout t x A ++ drop (wordsPerRow * e) table) (b .past))) l;
-            fine = (
+            obeys = (
               omega arith,
               y,
               b .number,
               subst (λ (x : ℕ). ObeyAll s x Entries 0 0 es) (sym (down d)) (b .fines),
-              subst (λ (x : ℕ). Obeys s x (o .w0) t) (sym (down d)) (subst (λ (x : ℕ). Obeys s d x t) k (g .fine)),
+              subst (λ (x : ℕ). Obeys s x (o .w0) t) (sym (down d)) (subst (λ (x : ℕ). Obeys s d x t) k (g .obeys)),
             );
           }
 
@@ -264,10 +264,10 @@ module _ (table : List ℕ) (n : ℕ) (s : List ℕ) (room : n ≤ lent table) w
             within = g .within;
             last = l;
             words = over (foreign o t) e past′ (layout t (row + 1) (inBody registry)) (g .words) l;
-            fine = (
+            obeys = (
               omega arith,
               y,
-              subst (λ (x : ℕ). Obeys s x (inForeign (length registry)) t) (sym (down d)) (subst (λ (x : ℕ). Obeys s d x t) (length-body registry) (g .fine)),
+              subst (λ (x : ℕ). Obeys s x (inForeign (length registry)) t) (sym (down d)) (subst (λ (x : ℕ). Obeys s d x t) (length-body registry) (g .obeys)),
             );
           }
 

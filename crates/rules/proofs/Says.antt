@@ -254,8 +254,12 @@ module _ (s : List ℕ) (o : Own) (x : Shape) (is : shapeOf s o ≡ x) where
 
   -- a key stands at no value position
   pub key-bad : o .kind ≡ kindKey → x ≡ shape.Bad
-  unfolding shapeOf named fits
-  key-bad e = sym (rw e at is)
+  unfolding shapeOf
+  key-bad e = sym is ∙ ap (λ (K : Kind). shapeIf (fits s o K) K) (key-named o e) ∙ of (fits s o Key)
+    where
+      of : (b : Bool) → shapeIf b Key ≡ shape.Bad
+      of true = refl
+      of false = refl
 
 -- ---- kinds that only one shape has
 

@@ -65,4 +65,4 @@ pub record Stands (depth : ℕ) (table : List ℕ) (n : ℕ) (s : List ℕ) (t :
   pub short : length s ≤ limit
   pub rows : size t ≡ n
   pub words : take (wordsPerRow * n) table ≡ layout t 0 []
-  pub fine : Obeys s (suc depth) 0 t
+  pub obeys : Obeys s (suc depth) 0 t

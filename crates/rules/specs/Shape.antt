@@ -78,7 +78,7 @@ fits s o Reference = blank 0 0 (o .w2) (o .w3)
 fits s o Declaration = blank 0 (o .w1) (o .w2) (o .w3) && ltb 0 (o .w0)  -- "w0 at least 1"
 fits s o Whole = blank (o .w0) (o .w1) (o .w2) (o .w3)  -- "right: all 0, one child"
 fits s o Damaged = blank 0 0 0 (o .w3) && inside s (o .w0) (o .w1)  -- "Damaged: w0 place, w1 size, w2 verdict (2..10), no child"
-fits s o Key = false  -- at a value position; a record's key is judged by keyFits
+fits s o Key = spelt s o
 fits s o Unknown = false
 
 -- the shape of a row of each kind

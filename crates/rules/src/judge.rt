@@ -119,7 +119,7 @@ pub fn fits(s: &[u8], w: Row, kind: Kind) -> bool
             }
             false
         }
-        Kind::Key => false,
+        Kind::Key => spelt(s, w),
         Kind::Unknown => false,
     }
 }

@@ -18,7 +18,7 @@ matches [] s = true
 matches (r ∷ l) [] = false
 matches (r ∷ l) (b ∷ s) = inRange r b && matches l s
 
--- how many bytes the first of these lines that fits takes, 0 where none fits
+-- how many bytes the first of these lines that matches takes, 0 where none does
 abbrev pub taken : List Line → List ℕ → ℕ
 taken [] s = 0
 taken (l ∷ ls) s = cond (matches l s) (length l) (taken ls s)

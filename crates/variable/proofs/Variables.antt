@@ -137,7 +137,7 @@ whole-bytes : wideEnd ≡ 256 * 2 ^ 120
 unfolding wideEnd
 whole-bytes = refl
 
--- going round at whole leaves the low byte
+-- going round at wideEnd leaves the low byte
 round-byte : (n m c : ℕ) → m ≡ 256 * c → n < m → m ≤ n + 124 → (0x84 + (n + 124 - m)) % 256 ≡ n % 256
 round-byte n m c e h l = omega arith
 

@@ -22,7 +22,7 @@ use Rattle.rules.proofs.Regrow.{behind as rows-behind, rest-at}
 pub record Right (s : List ℕ) (k : ℕ) (t : Tree) : Type 0 where
   pub key : Bool
   pub levels : ℕ
-  pub fine : IfKey key (KeyObeys s t) (Obeys s levels k t)
+  pub obeys : IfKey key (KeyObeys s t) (Obeys s levels k t)
 
 -- the rows of t stand from `row` on
 pub record Stood (table : List ℕ) (n : ℕ) (s : List ℕ) (t : Tree) (row : ℕ) (registry : List ℕ) : Type 0 where
@@ -60,7 +60,7 @@ NoLeaf (foreign o t) = Unit {0}
 NoLeaf (damaged o) = Unit {0}
 
 pub value-fine : (s : List ℕ) (k : ℕ) (t : Tree) → NoLeaf t → (r : Right s k t) → Obeys s (r .levels) k t
-value-fine s k t never r = of (r .key) (r .fine)
+value-fine s k t never r = of (r .key) (r .obeys)
   where
     of : (b : Bool) → IfKey b (KeyObeys s t) (Obeys s (r .levels) k t) → Obeys s (r .levels) k t
     of true f = absurd (subst NoLeaf (f .is) never)
@@ -128,7 +128,7 @@ module _ (table : List ℕ) (n : ℕ) (s : List ℕ) where
       let L : List ℕ = layouts ts false (row + size t) R in
       let u : drop (wordsPerRow * row) table ≡ layout t row R ++ (L ++ rest) = w ∙ append-assoc (layout t row R) L rest in
       let v : drop (wordsPerRow * (row + size t)) table ≡ L ++ rest = rows-behind table row (size t) (layout t row R) (L ++ rest) (length-layout t row R) u in (
-        (record { room = room; within = omega arith; rest = L ++ rest; words = u; right = record { key = isKey c i; levels = d; fine = f .0 } }, l, g),
+        (record { room = room; within = omega arith; rest = L ++ rest; words = u; right = record { key = isKey c i; levels = d; obeys = f .0 } }, l, g),
         held-good ts d c (i + 1) (row + size t) force rest room e (omega arith) v
             (subst (λ (x : Bool). ObeyAll s d c (after x (length R)) (i + 1) ts) e (f .1)) (before-on row (row + size t) force (omega arith) l) g,
       )
@@ -148,7 +148,7 @@ module _ (table : List ℕ) (n : ℕ) (s : List ℕ) where
       let R : List ℕ = spotRows force in
       let z : row + 0 ≡ row = add-zero row in
       let k : count ≡ length R = omega arith in
-      ((record { room = room; within = omega arith; rest = rest; words = w ∙ ap (λ (x : ℕ). layout t x R ++ rest) z; right = record { key = false; levels = d; fine = subst (λ (x : ℕ). Obeys s d x t) k o } }, l, g), tt)
+      ((record { room = room; within = omega arith; rest = rest; words = w ∙ ap (λ (x : ℕ). layout t x R ++ rest) z; right = record { key = false; levels = d; obeys = subst (λ (x : ℕ). Obeys s d x t) k o } }, l, g), tt)
   declared-good (more e es) t d count row force rest room b w f o num l g =
       let R : List ℕ = spotRows force in
       let x : Spot = spot e row force in
@@ -163,7 +163,7 @@ module _ (table : List ℕ) (n : ℕ) (s : List ℕ) where
       let q : row + (size e + sizes es) ≡ row + size e + sizes es = omega arith in
       let v′ : drop (wordsPerRow * (row + size e)) table ≡ (layouts es true (row + size e) R′ ++ layout t (row + size e + sizes es) (entries es (row + size e) R′)) ++ rest =
       v ∙ ap₂ (λ (y : List ℕ) (i : ℕ). (layouts es true (row + size e) y ++ layout t i (entries es (row + size e) y)) ++ rest) r q in
-      let own : Good table n s x = (record { room = room; within = omega arith; rest = (L ++ U) ++ rest; words = u; right = record { key = false; levels = d; fine = f .0 } }, l, g) in (
+      let own : Good table n s x = (record { room = room; within = omega arith; rest = (L ++ U) ++ rest; words = u; right = record { key = false; levels = d; obeys = f .0 } }, l, g) in (
         own,
         declared-good es t d count (row + size e) (added force x) rest room (omega arith) v′
             (subst (λ (k : ℕ). ObeyAll s d Entries k k es) (sym n′) (f .1)) o (omega arith)
@@ -189,7 +189,7 @@ module _ (table : List ℕ) (n : ℕ) (s : List ℕ) where
           within = b;
           rest = rest;
           words = w ∙ ap (λ (x : List ℕ). layout t row x ++ rest) (sym r);
-          right = record { key = false; levels = d; fine = subst (λ (x : ℕ). Obeys s d x t) (sym m) f };
+          right = record { key = false; levels = d; obeys = subst (λ (x : ℕ). Obeys s d x t) (sym m) f };
         },
         before-front k row force l,
         goods-front k force g,

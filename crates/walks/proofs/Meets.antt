@@ -63,7 +63,7 @@ module _ (s : List ℕ) where
 
   leaf-part : (k : ℕ) (o : Own) → Right s k (leaf o) → partIs o ≡ ownPart (leaf o)
   leaf-part k o r =
-      bool-case (hasPayload (o .kind)) (λ e. rw (e, le-leb (o .w0 + o .w1) (length s) (leaf-inside (r .levels) k o (r .key) (r .fine) e))) (λ e. rw e)
+      bool-case (hasPayload (o .kind)) (λ e. rw (e, le-leb (o .w0 + o .w1) (length s) (leaf-inside (r .levels) k o (r .key) (r .obeys) e))) (λ e. rw e)
 
   no-part : (o : Own) → (hasPayload (o .kind) ≡ true → ⊥) → partIs o ≡ part 0 0
   no-part o never = bool-case (hasPayload (o .kind)) (λ e. absurd (never e)) (λ e. rw e)

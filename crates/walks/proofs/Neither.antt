@@ -44,7 +44,7 @@ module _ (s : List ℕ) (k : ℕ) (registry : List ℕ) where
   of-value d (damaged o) f = record { no-reference = reference-shape s o Damaged (f .1); no-declaration = declaration-shape s o Damaged (f .1) }
 
   pub kind-is : (t : Tree) → Right s k t → KindIs t (ownAt t registry .kind)
-  kind-is t r = of (r .key) (r .fine)
+  kind-is t r = of (r .key) (r .obeys)
     where
       of : (b : Bool) → IfKey b (KeyObeys s t) (Obeys s (r .levels) k t) → KindIs t (ownAt t registry .kind)
       of true f = of-key t f

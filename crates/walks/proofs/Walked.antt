@@ -233,7 +233,7 @@ module _ (depth : ℕ) (table : List ℕ) (n : ℕ) (s : List ℕ) (t : Tree) (s
       within = omega (arith, st .rows);
       rest = drop (wordsPerRow * n) table;
       words = laid-out depth table n s t st;
-      right = record { key = false; levels = suc depth; fine = st .fine };
+      right = record { key = false; levels = suc depth; obeys = st .obeys };
     },
     tt,
     tt,

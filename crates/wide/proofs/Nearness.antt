@@ -77,7 +77,7 @@ value-low w a b c = let z : w .w1 + 2 ^ 32 * (w .w2 + 2 ^ 32 * w .w3) ≡ 0 = om
 value-some : (a b c d : ℕ) → 0 < b + 2 ^ 32 * (c + 2 ^ 32 * d) → 2 ^ 32 ≤ a + 2 ^ 32 * (b + 2 ^ 32 * (c + 2 ^ 32 * d))
 value-some a b c d h = carry-le a _ 1 h
 
--- all ones above the low word: 2 ^ 32 less than whole and the low word more
+-- all ones above the low word: 2 ^ 32 less than wideEnd and the low word more
 ones-step : (w m k : ℕ) → w ≡ 4294967295 → m + 1 ≡ k → w + 2 ^ 32 * m + 1 ≡ 2 ^ 32 * k
 ones-step w m k a b = omega arith
 

@@ -24,7 +24,7 @@ bool-case false f g = g refl
 pub apart {ℓ} : {X : Type ℓ} (b : Bool) → b ≡ true → b ≡ false → X
 apart b p q = absurd (let z : _≡_ {A = ℕ} 0 1 = cc in omega arith)
 
--- what has to be below 256 ^ k for a number below whole to fit k bytes: of a signed one twice the number, or twice its complement
+-- what has to be below 256 ^ k for a number below wideEnd to fit k bytes: of a signed one twice the number, or twice its complement
 abbrev pub reach : Bool → ℕ → ℕ
 reach true n = min (2 * n) (2 * (wideEnd - 1 - n))
 reach false n = n
@@ -35,12 +35,12 @@ reach-lt true n h = omega (arith, whole-half)
 
 -- ---- a body of k bytes
 
--- whole is a multiple of 256 ^ k
+-- wideEnd is a multiple of 256 ^ k
 cofactor : (k : ℕ) → k ≤ 16 → wideEnd ≡ 256 ^ k * 256 ^ (16 - k)
 unfolding wideEnd
 cofactor k h = let e : 16 ≡ k + (16 - k) = omega arith in ap (λ (x : ℕ). 256 ^ x) e ∙ pow-add 256 k (16 - k)
 
--- what lies whole - p above a number below p has that number for its rest
+-- what lies wideEnd - p above a number below p has that number for its rest
 high-rest : (k y : ℕ) → k ≤ 16 → y < 256 ^ k → (y + (wideEnd - 256 ^ k)) % 256 ^ k ≡ y
 high-rest k y h l =
     let p : ℕ = 256 ^ k in
@@ -82,7 +82,7 @@ unfolding bodyValue
 reads-back signed k n o h l f =
     ap₂ (λ (i x : ℕ). extended (negative signed i x) i x) (length-bytesOf k n) (number-bytesOf k n) ∙ back signed k n o h l f
 
--- what k bytes are read as is below whole, and its reach allows k bytes
+-- what k bytes are read as is below wideEnd, and its reach allows k bytes
 pub record Kept (signed : Bool) (k v : ℕ) : Type 0 where
   pub small : v < wideEnd
   pub near : reach signed v < 256 ^ k

@@ -1,4 +1,4 @@
--- Four words are the words of their number, and a number below whole is the number of its words. Assumes nothing.
+-- Four words are the words of their number, and a number below wideEnd is the number of its words. Assumes nothing.
 use mathlib.Core.Path.{_≡_, _∙_, sym, ap, subst, refl}
 use Prim.Native.Nat.{ℕ, _+_, _*_, _/_, _%_, _^_, _<_}
 use native.Mathlib.Nat.{mul-assoc}
@@ -7,7 +7,7 @@ use lib.Dec.{lit<}
 use Rattle.wide.specs.declared.wide.Wide.{Wide}
 use Rattle.wide.specs.Words.{wideEnd, words, valueOf, wideOf}
 
--- half of whole: the first number that is negative
+-- half of wideEnd: the first number that is negative
 unfoldable pub half : ℕ
 half = 2 ^ 127
 
@@ -63,7 +63,7 @@ wide-value w h =
     (hi-word (w .w2) _ (h .f2))
     (small-word (w .w3) (h .f3))
 
--- whole, a word at a time
+-- wideEnd, a word at a time
 pub whole-words : wideEnd ≡ 2 ^ 32 * (2 ^ 32 * (2 ^ 32 * 2 ^ 32))
 unfolding wideEnd
 whole-words = refl
@@ -82,7 +82,7 @@ join-word n x h = omega arith
 hi-lt : (n k : ℕ) → n < 2 ^ 32 * k → n / 2 ^ 32 < k
 hi-lt n k h = omega arith
 
--- a number below whole is the number of its words
+-- a number below wideEnd is the number of its words
 pub value-wide : (n : ℕ) → n < wideEnd → valueOf (wideOf n) ≡ n
 unfolding wideOf
 value-wide n h =
@@ -102,7 +102,7 @@ lo-more n x = omega arith
 hi-more : (n x : ℕ) → (n + 2 ^ 32 * x) / 2 ^ 32 ≡ n / 2 ^ 32 + x
 hi-more n x = omega arith
 
--- whole more leaves the words
+-- wideEnd more leaves the words
 pub wide-more : (n q : ℕ) → wideOf (n + wideEnd * q) ≡ wideOf n
 unfolding wideOf
 wide-more n q =

@@ -19,7 +19,7 @@ abbrev pub negative : Bool → ℕ → ℕ → Bool
 negative true k m = leb (256 ^ k) (2 * m)
 negative false k m = false
 
--- and then it stands for 256 ^ k less than its bytes say; below 0 the numbers go round at whole
+-- and then it stands for 256 ^ k less than its bytes say; below 0 the numbers go round at wideEnd
 abbrev pub extended : Bool → ℕ → ℕ → ℕ
 extended true k m = m + (wideEnd - 256 ^ k)
 extended false k m = m
@@ -37,6 +37,6 @@ abbrev pub firstOf : (ℕ → Bool) → List ℕ → ℕ
 firstOf test [] = 0
 firstOf test (k ∷ ks) = cond (test k) 0 (suc (firstOf test ks))
 
--- the place in sizes of the shortest body that holds n
+-- the place in bodySizes of the shortest body that holds n
 unfoldable pub rank : Bool → ℕ → ℕ
 rank signed n = firstOf (fitsIn signed n) bodySizes

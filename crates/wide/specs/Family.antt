@@ -9,7 +9,7 @@ use Rattle.wide.specs.Words.{wideEnd}
 use Rattle.wide.specs.Body.{sizeAt, bodyValue, rank}
 
 -- A run of bytes that are numbers by themselves, as `84`..`ff`, `00`..`7b` are -124..123: `count` bytes from `low` on (behind ff stands
--- 00) are the numbers from `from` on (behind whole - 1, which is -1, stands 0).
+-- 00) are the numbers from `from` on (behind wideEnd - 1, which is -1, stands 0).
 pub record Run : Type 0 where
   pub low : ℕ
   pub count : ℕ

@@ -49,7 +49,7 @@ module _ (depth : ℕ) (table : List ℕ) (n : ℕ) (s : List ℕ) where
   stands-spells : (t : Tree) → Stands depth table n s t → Spells table s 0 n (documentOf depth table n s)
   stands-spells t st =
       subst (Spells table s 0 n) (sym (stands-document t st))
-      (subst (λ (x : ℕ). Spells table s 0 x (encode s t)) (zero-add _ ∙ st .rows) (tree-spells table s t (suc depth) 0 0 [] (drop (wordsPerRow * n) table) (st .fine) (laid-out depth table n s t st)))
+      (subst (λ (x : ℕ). Spells table s 0 x (encode s t)) (zero-add _ ∙ st .rows) (tree-spells table s t (suc depth) 0 0 [] (drop (wordsPerRow * n) table) (st .obeys) (laid-out depth table n s t st)))
 
   module _ (yes : rulesHold depth table n s ≡ true) where
     stands : (t : Tree) × Stands depth table n s t

@@ -49,6 +49,7 @@ fits-spec =
     (λ c κs. search needs)
     (λ c. search (fits-as, char-yes, and-yes, needs))
     (λ c. search needs)
+    (λ c κs. search needs)
     (λ c. search needs)
     (λ c. search (fits-as, char-yes, needs))
     (λ c. search (fits-as, char-yes, small-is, needs))

@@ -1,4 +1,5 @@
--- What a tree says over its data: the rows, places aside, and the payload bytes. Assumes nothing: these are definitions.
+-- What a tree says over its data: the rows, places aside, and the payload bytes. Nothing shorter says the same, and rows that are the same do. A
+-- definition and no law; assumes nothing.
 use mathlib.Core.List.{List, []}
 use Prim.Native.Nat.{ℕ}
 use Rattle.rows.specs.Table.{Own}
