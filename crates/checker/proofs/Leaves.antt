@@ -19,7 +19,7 @@ use Rattle.measure.specs.declared.measured.Measured.{Measured}
 use Rattle.measure.specs.declared.measured.Measured.the-variants as measured
 use Rattle.measure.specs.Measured.{measuredOf}
 use Rattle.rules.specs.declared.shape.Shape.{Shape}
-use Rattle.rules.specs.declared.shape.Shape.the-variants.{Leaf}
+use Rattle.rules.specs.declared.shape.Shape.the-variants.{Bad, Leaf, Refer, Hold, Declare, Whole, Damaged}
 use Rattle.format.specs.Tree.{leaf}
 use Rattle.rules.specs.Shape.{spelt, shapeOf, keyFits}
 use Rattle.rules.specs.Grow.{Growth, grew, bad, endsAt, keyRow, growKey, pointing, judged}
@@ -74,10 +74,25 @@ key-out table n s row h = rw (le-ltb row n h)
 pub alone-leaf : (x : Shape) (row end e : ℕ) → x ≡ Leaf → e ≡ end → eqb e (row + 1) ≡ isAlone x row end
 alone-leaf x row end e q f = rw (q, f)
 
+not-alone : (x : Shape) (row end : ℕ) → (end ≡ row + 1 → ⊥) → isAlone x row end ≡ false
+not-alone Bad row end f = refl
+not-alone Leaf row end f = ne-eqb end (row + 1) f
+not-alone Refer row end f = refl
+not-alone (Hold h) row end f = refl
+not-alone Declare row end f = refl
+not-alone Whole row end f = refl
+not-alone Damaged row end f = refl
+
 module _ (table : List ℕ) (n : ℕ) (s : List ℕ) (row : ℕ) where
   pub alone-out : n ≤ row → false ≡ standsAlone table n s row
   unfolding standsAlone
   alone-out h = rw (le-ltb row n h)
+
+  -- a row that ends elsewhere than behind itself
+  pub alone-elsewhere : (w : Row) (e : ℕ) → row < n → w ≡ rowAt table row → e ≡ w .end → (e ≡ row + 1 → ⊥) → false ≡ standsAlone table n s row
+  unfolding standsAlone
+  alone-elsewhere w e h q i f =
+      rw (lt-ltb row n h) (sym (not-alone (shapeOf s (ownOf (rowAt table row))) row (rowAt table row .end) (λ z. f (i ∙ ap (λ (v : Row). v .end) q ∙ z))))
 
   pub alone-in : (w : Row) (x : Shape) (r : Bool) → row < n → w ≡ rowAt table row → x ≡ shapeOf s (ownOf w) → r ≡ isAlone x row (w .end)
       → r ≡ standsAlone table n s row

@@ -69,7 +69,8 @@ fn is_alone(shape: Shape, row: usize, end: u32) -> bool
     }
 }
 
-// Whether such a row stands at `row`: nothing more is asked of it, so that no call of check_value is made for the rows that are met most.
+// Whether such a row stands at `row`: nothing more is asked of it, so that no call of check_value is made for the rows that are met most. Its
+// end is asked first: it tells a holder without a look at its words.
 pub fn stands_alone(table: &[u32], n: usize, s: &[u8], row: usize) -> bool
     requires { ⌜ (n ≤ lent (now table)) × (n ≤ limit) ⌝ }
     ensures { λ r. ⌜ r ≡ standsAlone (now (table .entry)) n (now (s .entry)) row ⌝ }
@@ -78,6 +79,9 @@ pub fn stands_alone(table: &[u32], n: usize, s: &[u8], row: usize) -> bool
         return false;
     }
     let w = rows::row_at(table, row);
+    if rows::number(w.end) != row + 1 {
+        return false;
+    }
     is_alone(rules::shape_of(s, w), row, w.end)
 }
 
