@@ -1,7 +1,7 @@
 /* Panxidell as C sees it: the static library libpanxidell_c.a.
  *
- * A document is a run of bytes; a table is a run of uint32_t, six to a row. The library reads a document into a table, checks a table,
- * walks it and writes its document, and it reads and writes variable integers.
+ * A document is a run of bytes; a table is a run of uint32_t, six to a row. The library measures a document, fills a table with its rows,
+ * checks a table, walks it and writes its document, and it reads and writes variable integers.
  *
  * Every function is total: it answers whatever the lent memory holds, and no call is forbidden by its values. What each answers and what each
  * leaves in lent memory is proved (docs/PROMISES.md, panxidell_c).
@@ -39,7 +39,7 @@ extern "C" {
 /* The numbers of the answers, and the number beside each. */
 enum panxidell_answer {
     PANXIDELL_OK = 0,         /* accepted: rows, bytes written or used, a standing, or 0: see each function */
-    PANXIDELL_TOO_LONG = 1,   /* document above PANXIDELL_LIMIT bytes: 0 from reading, the bytes needed from writing */
+    PANXIDELL_TOO_LONG = 1,   /* document above PANXIDELL_LIMIT bytes: 0 from measuring and filling, the bytes needed from writing */
     PANXIDELL_SHORT = 2,      /* bytes end inside an item: place; 0 from the variable integers */
     PANXIDELL_MARKER = 3,     /* 0e, 0f, or 0d before other than 0d, 00: place */
     PANXIDELL_HUGE = 4,       /* length, count or number above PANXIDELL_LIMIT: place */
@@ -49,7 +49,7 @@ enum panxidell_answer {
     PANXIDELL_EMPTY = 8,      /* declaration of 0 entries: place */
     PANXIDELL_DEEP = 9,       /* position at depth 33: place */
     PANXIDELL_EXTRA = 10,     /* bytes after the value: the place of the first of them */
-    PANXIDELL_FULL = 11,      /* the document is right, but has more rows than are lent: rows needed */
+    PANXIDELL_FULL = 11,      /* the document is right, but has more rows than are lent: rows needed; never from measuring */
     PANXIDELL_BAD_TABLE = 12, /* a row rule is broken, a standing is forged, or n is too large: 0 */
     PANXIDELL_NO_ROOM = 13,   /* output too small: bytes needed; a list too short: its length needed */
     PANXIDELL_NO_STEP = 14    /* nothing that way: 0 */
@@ -110,11 +110,17 @@ static inline uint32_t panxidell_bound(uint64_t answer)
     return (uint32_t)(answer & UINT64_C(0xffffffff));
 }
 
-/* Reads the document data[0..len) into table.
- *   0: rows used. The rows stand from the front of the table on, every number behind them is 0.
- *   1, 2..10, 11: as above. Every number of the table is 0, those behind the last whole row too.
- * 1 is asked first, 11 last. A document needs no more rows than it has bytes. */
-uint64_t panxidell_read(const uint8_t *data, size_t len, uint32_t *table, size_t words);
+/* Measures the document data[0..len). Nothing is written.
+ *   0: rows needed. A table of just so many is never too small for panxidell_fill, and a document needs no more rows than it has bytes.
+ *   1, 2..10: as above. 1 is asked first. It is never 11. */
+uint64_t panxidell_measure(const uint8_t *data, size_t len);
+
+/* Fills table with the rows of the document data[0..len).
+ *   0: rows used, as many as panxidell_measure says. They stand from the front of the table on, every number behind them is 0.
+ *   1, 2..10: as panxidell_measure answers. 11: asked last. Every number of the table is 0, those behind the last whole row too.
+ * The document is measured whole before a number of the table is written, and under a refusal nothing but zeros is written: no row of a
+ * document that is refused stands in the table, not for a while either. */
+uint64_t panxidell_fill(const uint8_t *data, size_t len, uint32_t *table, size_t words);
 
 /* Whether the first n rows of table obey the row rules over data, wherever they came from. Rows behind n are not looked at.
  *   0: n.

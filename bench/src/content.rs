@@ -1,6 +1,6 @@
-//! What is read, checked and written.
+//! What is measured, filled in, checked and written.
 
-use reference::generate::{Node, Random};
+use reference::generate::{shortest, Node, Random};
 
 /// A passage: tag, milliseconds of a race day (three bytes), panel.
 fn passage(tag: Node, i: usize) -> Node {
@@ -24,6 +24,24 @@ pub fn interned(entries: usize, count: usize) -> Node {
     let tags = (0..entries).map(|_| tag(random)).collect();
     let passages = (0..count).map(|i| passage(Node::Reference(random.below(entries) as u32), i)).collect();
     Node::Declaration(tags, Box::new(Node::Array(passages)))
+}
+
+/// Passages of two panels in turn. Those of the other one stand each in a foreign document; one in ten of these is
+/// damaged: it was cut short, at any place.
+pub fn twin_panel(count: usize) -> Node {
+    let random = &mut Random::new(6);
+    let heard = |random: &mut Random, i: usize| {
+        let passage = passage(tag(random), i);
+        if i % 2 == 0 {
+            return passage;
+        }
+        if random.below(10) > 0 {
+            return Node::Foreign(Box::new(passage));
+        }
+        let body = shortest(&passage);
+        Node::Damaged(body[..random.below(body.len())].to_vec(), 2)
+    };
+    Node::Array((0..count).map(|i| heard(random, i)).collect())
 }
 
 const NAMES: [&str; 8] = ["Ana", "Björn", "Chloë", "Dmitri", "Eszter", "Ferdinand", "Gwen", "Håkon"];

@@ -1,4 +1,4 @@
-/* Reads a document, checks its table, walks it and prints an indented listing, then writes it back. */
+/* Measures a document, fills a table of just its rows, checks it, walks it and prints an indented listing, then writes it back. */
 #include "panxidell.h"
 
 #include <inttypes.h>
@@ -127,16 +127,15 @@ int main(int count, char **arguments) {
     uint8_t *data = bytes_of(count > 1 ? arguments[1] : "examples/twin-panel", &d.length);
     d.data = data;
 
-    /* with no row lent, a right document answers how many it needs; even an empty list has an address */
-    uint32_t none[1];
-    uint64_t answer = panxidell_read(data, d.length, none, 0);
-    if (panxidell_number(answer) != PANXIDELL_FULL) fail("read", answer);
+    /* the rows that were measured are lent, and no more: that is never too small */
+    uint64_t answer = panxidell_measure(data, d.length);
+    if (panxidell_number(answer)) fail("measure", answer);
     d.rows = (size_t)panxidell_beside(answer);
     d.words = PANXIDELL_WORDS * d.rows;
     uint32_t *table = lend(d.words * sizeof *table);
     d.table = table;
-    answer = panxidell_read(data, d.length, table, d.words);
-    if (panxidell_number(answer)) fail("read", answer);
+    answer = panxidell_fill(data, d.length, table, d.words);
+    if (panxidell_number(answer)) fail("fill", answer);
     answer = panxidell_check(table, d.words, d.rows, data, d.length);
     if (panxidell_number(answer)) fail("check", answer);
     printf("%zu bytes, %zu rows\n", d.length, d.rows);

@@ -1,11 +1,13 @@
-//! Reads a document, checks its table, walks it and prints an indented listing, then writes it back.
+//! Measures a document, fills a table of just its rows, checks it, walks it and prints an indented listing, then writes
+//! it back.
 
 use std::{env, fs, process};
 
 /// The proved library, as include/panxidell.h has it.
 mod c {
     extern "C" {
-        pub fn panxidell_read(data: *const u8, len: usize, table: *mut u32, words: usize) -> u64;
+        pub fn panxidell_measure(data: *const u8, len: usize) -> u64;
+        pub fn panxidell_fill(data: *const u8, len: usize, table: *mut u32, words: usize) -> u64;
         pub fn panxidell_check(table: *const u32, words: usize, n: usize, data: *const u8, len: usize) -> u64;
         pub fn panxidell_write(
             table: *const u32,
@@ -42,7 +44,6 @@ mod c {
 /// The number beside 0, or the refusal's number and the number beside it.
 type Answer = Result<usize, (u32, usize)>;
 
-const FULL: u32 = 11;
 const NO_STEP: u32 = 14;
 
 fn answer(packed: u64) -> Answer {
@@ -77,8 +78,12 @@ fn fail(what: &str, (number, beside): (u32, usize)) -> ! {
 
 // Every call lends whole slices, and the library is proved to stay inside them.
 
-fn read(data: &[u8], table: &mut [u32]) -> Answer {
-    answer(unsafe { c::panxidell_read(data.as_ptr(), data.len(), table.as_mut_ptr(), table.len()) })
+fn measure(data: &[u8]) -> Answer {
+    answer(unsafe { c::panxidell_measure(data.as_ptr(), data.len()) })
+}
+
+fn fill(data: &[u8], table: &mut [u32]) -> Answer {
+    answer(unsafe { c::panxidell_fill(data.as_ptr(), data.len(), table.as_mut_ptr(), table.len()) })
 }
 
 struct Document<'a> {
@@ -195,14 +200,10 @@ fn main() {
         process::exit(1)
     });
 
-    // with no row lent, a right document answers how many it needs
-    let rows = match read(&data, &mut []) {
-        Err((FULL, needed)) => needed,
-        Err(refused) => fail("read", refused),
-        Ok(_) => unreachable!("every document has a row"),
-    };
+    // the rows that were measured are lent, and no more: that is never too small
+    let rows = measure(&data).unwrap_or_else(|refused| fail("measure", refused));
     let mut table = vec![0; 6 * rows];
-    read(&data, &mut table).unwrap_or_else(|refused| fail("read", refused));
+    fill(&data, &mut table).unwrap_or_else(|refused| fail("fill", refused));
     let document = Document { data: &data, table: &table, rows };
     document.check().unwrap_or_else(|refused| fail("check", refused));
     println!("{} bytes, {rows} rows", data.len());

@@ -1,6 +1,6 @@
 //! The check: whether a table keeps the row rules.
 
-use crate::measure::measure;
+use crate::measure;
 use crate::refusal::{Fault, Refusal};
 use crate::registry::Registry;
 use crate::rows::{is_codepoint, is_small, kind, lent, Row};
@@ -106,7 +106,7 @@ impl Check<'_> {
     fn verdict(&self, place: u32, size: u32, depth: u32, registry: &Registry) -> Option<u32> {
         self.part(place, size)?;
         let end = place as usize + size as usize;
-        let refused = measure(&self.data[..end], place as usize, depth, registry.force()).err()?;
+        let refused = measure::body(&self.data[..end], place as usize, depth, registry.force()).err()?;
         Some(refused.number())
     }
 

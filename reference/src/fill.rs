@@ -1,14 +1,39 @@
-//! The second pass: the rows of a document that was measured and fits.
+//! Filling: document to table. The document is measured whole; then the rows of one that fits are laid.
 
 use crate::head::{codepoint, head, key, Head};
-use crate::measure::measure;
-use crate::refusal::Fault;
+use crate::measure::{self, Measure};
+use crate::refusal::{Fault, Refusal};
 use crate::registry::Registry;
-use crate::rows::{is_small, kind, Row};
+use crate::rows::{is_small, kind, lent, lent_mut, Row};
 use crate::varint::{signed_body, small_words, unsigned_body, words, Words};
 
-/// Writes all rows of a right document; the table has as many as it needs. A sound one has no damaged body.
-pub fn fill(data: &[u8], rows: &mut [Row], sound: bool) {
+/// Fills a table with a document's rows; the rows used. All other numbers of the table are 0 afterwards.
+pub fn fill(data: &[u8], table: &mut [u32]) -> Result<usize, Refusal> {
+    match fitting(data, lent(table).len()) {
+        Ok(document) => {
+            let (used, rest) = table.split_at_mut(6 * document.rows);
+            lay(data, lent_mut(used), document.sound);
+            rest.fill(0);
+            Ok(document.rows)
+        }
+        Err(refusal) => {
+            table.fill(0);
+            Err(refusal)
+        }
+    }
+}
+
+/// Measures a document that is right and fits in so many rows.
+fn fitting(data: &[u8], lent: usize) -> Result<Measure, Refusal> {
+    let document = measure::whole(data)?;
+    if document.rows > lent {
+        return Err(Refusal::at(Fault::Full, document.rows));
+    }
+    Ok(document)
+}
+
+/// Lays all rows of a right document; there are as many as it needs. A sound one has no damaged body.
+fn lay(data: &[u8], rows: &mut [Row], sound: bool) {
     Fill { data, rows, used: 0, sound }.value(0, 0, &Registry::EMPTY);
 }
 
@@ -20,10 +45,10 @@ struct Fill<'a> {
     sound: bool,
 }
 
-/// The head at a place that the first pass accepted.
+/// The head at a place that measuring accepted.
 #[inline(always)]
 fn measured(head: Result<Head, Fault>) -> Head {
-    head.unwrap_or_else(|_| unreachable!("the first pass refused nothing here"))
+    head.unwrap_or_else(|_| unreachable!("measuring refused nothing here"))
 }
 
 impl Fill<'_> {
@@ -99,7 +124,7 @@ impl Fill<'_> {
     fn foreign(&mut self, head: &Head, depth: u32, registry: &Registry) -> Words {
         let outside = self.sound;
         if !outside {
-            match measure(&self.data[..head.next], head.place, depth, registry.force()) {
+            match measure::body(&self.data[..head.next], head.place, depth, registry.force()) {
                 Ok(body) => self.sound = body.sound,
                 Err(refusal) => return [head.place as u32, head.number, refusal.number(), 0],
             }

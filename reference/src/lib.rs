@@ -5,12 +5,11 @@
 #![forbid(unsafe_code)]
 
 pub mod check;
-mod fill;
+pub mod fill;
 pub mod generate;
 mod head;
 pub mod listing;
-mod measure;
-pub mod read;
+pub mod measure;
 pub mod refusal;
 mod registry;
 pub mod rows;

@@ -1,6 +1,6 @@
 //! The listing program's lines.
 
-use crate::read::read;
+use crate::fill::fill;
 use crate::rows::lent;
 use std::fmt::Write;
 
@@ -17,7 +17,7 @@ pub fn listing(document: &[u8]) -> String {
     }
     let mut table = [0; 6 * ROWS];
     let mut lines = String::new();
-    match read(document, &mut table) {
+    match fill(document, &mut table) {
         Ok(n) => {
             writeln!(lines, "read {n}").unwrap();
             for [kind, end, w0, w1, w2, w3] in &lent(&table)[..n] {

@@ -1,20 +1,33 @@
-//! The first pass: whether the bytes are a right document, and how many rows it needs.
+//! Measuring: whether the bytes are a right document, and how many rows it needs. Nothing is written.
 
 use crate::head::{codepoint, head, key, Head};
 use crate::refusal::{Fault, Refusal};
 use crate::rows::{is_codepoint, kind};
 use crate::text::is_text;
-use crate::DEPTH;
+use crate::{DEPTH, LIMIT};
+
+/// The rows that a document needs. It is never refused with 11: no table is lent.
+pub fn measure(data: &[u8]) -> Result<usize, Refusal> {
+    Ok(whole(data)?.rows)
+}
 
 /// What a right document needs.
-pub struct Measure {
+pub(crate) struct Measure {
     pub rows: usize,
     /// Whether no foreign body in it is damaged.
     pub sound: bool,
 }
 
+/// Measures all of the data: too many bytes are refused first.
+pub(crate) fn whole(data: &[u8]) -> Result<Measure, Refusal> {
+    if data.len() > LIMIT as usize {
+        return Err(Refusal::bare(Fault::TooLong));
+    }
+    body(data, 0, 0, 0)
+}
+
 /// Measures the document from `at` to the end of the data, its position at `depth` under `force` entries.
-pub fn measure(data: &[u8], at: usize, depth: u32, force: u32) -> Result<Measure, Refusal> {
+pub(crate) fn body(data: &[u8], at: usize, depth: u32, force: u32) -> Result<Measure, Refusal> {
     let mut measure = Measure { rows: 0, sound: true };
     measure.document(data, at, depth, force)?;
     Ok(measure)

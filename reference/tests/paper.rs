@@ -1,8 +1,9 @@
 //! Every example of the paper, and the readings decided for its open places.
 
 use reference::check::check;
+use reference::fill::fill;
 use reference::listing::listing;
-use reference::read::read;
+use reference::measure::measure;
 use reference::refusal::{Fault, Refusal};
 use reference::rows::{lent, Row};
 use reference::walk::{along, on, payload, resolve, start, step_in, Resolved, Standing};
@@ -12,25 +13,37 @@ fn bytes(hex: &str) -> Vec<u8> {
     hex.split_whitespace().map(|pair| u8::from_str_radix(pair, 16).unwrap()).collect()
 }
 
-/// Reads with rows to spare; all that stands behind the used ones must be 0.
-fn read_into(document: &[u8], words: usize) -> (Result<usize, (u32, u64)>, Vec<u32>) {
+/// Rows, or the refusal's number and the number beside it.
+type Answer = Result<usize, (u32, u64)>;
+
+fn plain(answer: Result<usize, Refusal>) -> Answer {
+    answer.map_err(|refusal| (refusal.number(), refusal.beside))
+}
+
+/// Fills a table of so many words; all that stands behind the used rows must be 0. Measuring must have said the same,
+/// or the rows needed where they are not lent.
+fn filled(document: &[u8], words: usize) -> (Answer, Vec<u32>) {
     let mut table = vec![0xdead_beef; words];
-    let answer = read(document, &mut table);
+    let answer = plain(fill(document, &mut table));
     let used = 6 * answer.unwrap_or(0);
     assert!(table[used..].iter().all(|word| *word == 0));
-    (answer.map_err(|refusal| (refusal.number(), refusal.beside)), table)
+    match plain(measure(document)) {
+        Ok(rows) if rows > words / 6 => assert_eq!(answer, Err((11, rows as u64))),
+        measured => assert_eq!(answer, measured),
+    }
+    (answer, table)
 }
 
 fn rows(hex: &str) -> Vec<Row> {
     let document = bytes(hex);
-    let (answer, table) = read_into(&document, 6 * document.len() + 5);
+    let (answer, table) = filled(&document, 6 * document.len() + 5);
     let n = answer.unwrap_or_else(|refusal| panic!("{hex}: {refusal:?}"));
     check(&table, n, &document).unwrap();
     lent(&table)[..n].to_vec()
 }
 
 fn refused(document: &[u8]) -> (u32, u64) {
-    read_into(document, 6 * 64 + 3).0.unwrap_err()
+    filled(document, 6 * 64 + 3).0.unwrap_err()
 }
 
 fn refused_hex(hex: &str) -> (u32, u64) {
@@ -106,10 +119,10 @@ fn references_and_declarations() {
         [14, 6, 0, 1, 0, 0],
     ];
     assert_eq!(rows(document), expected);
-    assert_eq!(read_into(&bytes(document), 30).0, Err((11, 6)));
-    assert_eq!(read_into(&bytes(document), 35).0, Err((11, 6)));
-    assert_eq!(read_into(&bytes(document), 36).0, Ok(6));
-    assert_eq!(read_into(&bytes(document), 0).0, Err((11, 6)));
+    assert_eq!(filled(&bytes(document), 30).0, Err((11, 6)));
+    assert_eq!(filled(&bytes(document), 35).0, Err((11, 6)));
+    assert_eq!(filled(&bytes(document), 36).0, Ok(6));
+    assert_eq!(filled(&bytes(document), 0).0, Err((11, 6)));
     assert_eq!(refused_hex("c1"), (7, 0));
     assert_eq!(refused_hex("0d 0d 01 c1 02"), (7, 3));
     assert_eq!(refused_hex("0d 0d 00 02"), (8, 0));
@@ -146,16 +159,16 @@ fn chars_and_text() {
 #[test]
 fn depth() {
     let nested = |levels: usize, leaf: &[u8]| [&vec![0xa0; levels], leaf].concat();
-    assert_eq!(read_into(&nested(32, &[2]), 6 * 33).0, Ok(33));
+    assert_eq!(filled(&nested(32, &[2]), 6 * 33).0, Ok(33));
     assert_eq!(refused(&nested(33, &[2])), (9, 33));
     assert_eq!(refused(&nested(33, &[])), (9, 33));
     assert_eq!(refused(&nested(32, &[])), (2, 32));
     // A foreign body one level too deep, empty or not; one level higher it is right.
-    let (answer, table) = read_into(&nested(32, &[0x0d, 0x00, 0x00]), 6 * 33);
+    let (answer, table) = filled(&nested(32, &[0x0d, 0x00, 0x00]), 6 * 33);
     assert_eq!((answer, lent(&table)[32]), (Ok(33), [16, 33, 35, 0, 9, 0]));
-    let (answer, table) = read_into(&nested(32, &[0x0d, 0x00, 0x01, 0x02]), 6 * 33);
+    let (answer, table) = filled(&nested(32, &[0x0d, 0x00, 0x01, 0x02]), 6 * 33);
     assert_eq!((answer, lent(&table)[32]), (Ok(33), [16, 33, 35, 1, 9, 0]));
-    assert_eq!(read_into(&nested(31, &[0x0d, 0x00, 0x01, 0x02]), 6 * 33).0, Ok(33));
+    assert_eq!(filled(&nested(31, &[0x0d, 0x00, 0x01, 0x02]), 6 * 33).0, Ok(33));
     // A record at depth 32 reports its key first; a map's key is a position.
     assert_eq!(refused(&nested(32, &[0xb0])), (2, 33));
     assert_eq!(refused(&nested(32, &[0xb0, 0x01])), (2, 33));
@@ -164,8 +177,8 @@ fn depth() {
     assert_eq!(refused(&nested(32, &[0xb0, 0x01, 0x61])), (9, 35));
     assert_eq!(refused(&nested(32, &[0xb8])), (9, 33));
     assert_eq!(refused(&nested(32, &[0x0d, 0x0d, 0x01])), (9, 35));
-    assert_eq!(read_into(&nested(32, &[0x09, 0x00]), 6 * 33).0, Ok(33));
-    assert_eq!(read_into(&nested(32, &[0x0a, 0x00]), 6 * 33).0, Ok(33));
+    assert_eq!(filled(&nested(32, &[0x09, 0x00]), 6 * 33).0, Ok(33));
+    assert_eq!(filled(&nested(32, &[0x0a, 0x00]), 6 * 33).0, Ok(33));
 }
 
 #[test]
@@ -174,7 +187,7 @@ fn longest_short_forms() {
         |entries: u8, value: &str| [&[0x0d, 0x0d, entries], &vec![2; entries as usize][..], &bytes(value)].concat();
     for (value, number) in [("fe", 61), ("ff 3e", 62), ("ff 3d", 61)] {
         let document = declared(63, value);
-        let (answer, table) = read_into(&document, 6 * 65);
+        let (answer, table) = filled(&document, 6 * 65);
         assert_eq!((answer, lent(&table)[64]), (Ok(65), [14, 65, number, number + 1, 0, 0]));
         let shortest = if number == 61 { "fe" } else { "ff 3e" };
         assert_eq!(written(&table, 65, &document), declared(63, shortest));
@@ -233,19 +246,55 @@ fn order_at_one_position() {
     assert_eq!(rows("a1 0d 00 03 0d 00 01 01")[1], [16, 2, 4, 3, 2, 0]);
     assert_eq!(only("0d 00 00"), (16, [3, 0, 2, 0]));
     // 10 comes before 11.
-    assert_eq!(read_into(&bytes("a0 02 02"), 6).0, Err((10, 2)));
-    assert_eq!(read_into(&bytes("a1 02 0e"), 6).0, Err((3, 2)));
+    assert_eq!(filled(&bytes("a0 02 02"), 6).0, Err((10, 2)));
+    assert_eq!(filled(&bytes("a1 02 0e"), 6).0, Err((3, 2)));
 }
 
 #[test]
 fn a_full_table_in_a_foreign_body_is_full() {
     let document = bytes("a1 0d 00 04 a2 02 02 02 01");
     for rows in 0..7 {
-        assert_eq!(read_into(&document, 6 * rows + 5).0, Err((11, 7)), "{rows}");
+        assert_eq!(filled(&document, 6 * rows + 5).0, Err((11, 7)), "{rows}");
     }
-    assert_eq!(read_into(&document, 6 * 7).0, Ok(7));
+    assert_eq!(filled(&document, 6 * 7).0, Ok(7));
     // A damaged body takes one row, whatever it would have needed.
-    assert_eq!(read_into(&bytes("a1 0d 00 05 a3 02 02 02 0e 01"), 6 * 3).0, Ok(3));
+    assert_eq!(filled(&bytes("a1 0d 00 05 a3 02 02 02 0e 01"), 6 * 3).0, Ok(3));
+}
+
+/// Measuring asks for no table: it gives the rows where filling is refused with 11.
+#[test]
+fn measuring_is_never_full() {
+    for (hex, rows) in [("02", 1), ("a1 0d 00 04 a2 02 02 02 01", 7), ("0d 0d 01 80 61 a2 c1 c1 c1", 6)] {
+        let document = bytes(hex);
+        assert_eq!(measure(&document), Ok(rows));
+        for words in [0, 5, 6 * rows - 6, 6 * rows - 1] {
+            assert_eq!(filled(&document, words), (Err((11, rows as u64)), vec![0; words]));
+        }
+        assert_eq!(filled(&document, 6 * rows).0, Ok(rows));
+    }
+}
+
+/// The same refusal whatever is lent, and a table of zeros.
+#[test]
+fn a_refusal_is_the_same_from_both() {
+    for (hex, refusal) in [
+        ("", (2, 0)),
+        ("0f", (3, 0)),
+        ("08 fb 00 00 00 01", (4, 0)),
+        ("a1 02 81 c0 80", (5, 2)),
+        ("c0 00 d8 00", (6, 0)),
+        ("0d 0d 01 c1 02", (7, 3)),
+        ("0d 0d 00 02", (8, 0)),
+        ("02 02", (10, 1)),
+    ] {
+        let document = bytes(hex);
+        assert_eq!(plain(measure(&document)), Err(refusal), "{hex}");
+        for words in [0, 1, 5, 6, 11, 60] {
+            assert_eq!(filled(&document, words), (Err(refusal), vec![0; words]), "{hex}");
+        }
+    }
+    assert_eq!(plain(measure(&[0xa0; 33])), Err((9, 33)));
+    assert_eq!(filled(&[0xa0; 33], 5), (Err((9, 33)), vec![0; 5]));
 }
 
 #[test]
@@ -253,11 +302,16 @@ fn too_long() {
     let limit = 16_777_215;
     let mut document = vec![0x61; limit];
     document[..5].copy_from_slice(&bytes("08 fa fa ff ff"));
-    let mut table = [9; 8];
-    assert_eq!(read(&document, &mut table), Ok(1));
-    assert_eq!(table, [8, 1, 5, limit as u32 - 5, 0, 0, 0, 0]);
+    assert_eq!(measure(&document), Ok(1));
+    assert_eq!(filled(&document, 8), (Ok(1), vec![8, 1, 5, limit as u32 - 5, 0, 0, 0, 0]));
     document.push(0x61);
-    assert_eq!(refused(&document), (1, 0));
+    assert_eq!(measure(&document), Err(Refusal { fault: Fault::TooLong, beside: 0 }));
+    for words in [0, 5, 6, 8] {
+        assert_eq!(filled(&document, words), (Err((1, 0)), vec![0; words]));
+    }
+    // Above the limit nothing else is asked.
+    assert_eq!(refused(&vec![0x0e; limit + 1]), (1, 0));
+    assert_eq!(refused(&vec![0x0e; limit]), (3, 0));
     let row = [8, 1, 5, 1, 0, 0];
     assert_eq!(check(&row, 1, &document), Err(Refusal { fault: Fault::BadTable, beside: 0 }));
     assert_eq!(write(&row, 1, &document, &mut []), Err(Refusal { fault: Fault::BadTable, beside: 0 }));

@@ -3,8 +3,10 @@
 mod naive;
 
 use reference::check::check;
+use reference::fill::fill;
 use reference::generate::{changed, longer, noise, shortest, tree, Node, Random};
-use reference::read::read;
+use reference::measure::measure;
+use reference::refusal::Refusal;
 use reference::rows::{lent, Row};
 use reference::walk::{along, on, payload, resolve, start, step_in, Standing};
 use reference::write::write;
@@ -95,30 +97,42 @@ fn expected(node: &Node, entries: &[usize], rows: &mut Vec<Carried>) {
     rows[own].0[1] = rows.len() as u32;
 }
 
-/// Reads into a table of so many words, with nothing behind the used rows and no zeros before.
-fn read_all(document: &[u8], words: usize) -> (Result<usize, (u32, u64)>, Vec<u32>) {
+/// Rows, or the refusal's number and the number beside it.
+type Answer = Result<usize, (u32, usize)>;
+
+fn plain(answer: Result<usize, Refusal>) -> Answer {
+    answer.map_err(|refusal| (refusal.number(), refusal.beside as usize))
+}
+
+/// Fills a table of so many words that has no zeros before.
+fn filled(document: &[u8], words: usize) -> (Answer, Vec<u32>) {
     let mut table = vec![0xdead_beef; words];
-    let answer = read(document, &mut table);
-    assert!(table[6 * answer.unwrap_or(0)..].iter().all(|word| *word == 0));
-    (answer.map_err(|refusal| (refusal.number(), refusal.beside)), table)
+    (plain(fill(document, &mut table)), table)
 }
 
 /// What holds for any bytes at all; the rows when they are accepted.
 fn reads_right(document: &[u8]) -> Option<Vec<Row>> {
-    let (answer, table) = read_all(document, 6 * document.len() + 5);
-    match naive::read(document) {
+    let measured = plain(measure(document));
+    assert_eq!(measured, naive::measure(document), "{document:02x?}");
+    match measured {
         Err((number, place)) => {
-            assert_eq!(answer, Err((number, place as u64)), "{document:02x?}");
             assert!((2..=10).contains(&number) && place <= document.len());
-            assert_eq!(read_all(document, 0).0, answer);
+            for words in [0, 5, 6 * document.len() + 5] {
+                assert_eq!(filled(document, words), (measured, vec![0; words]), "{document:02x?}");
+            }
             None
         }
-        Ok(rows) => {
-            let n = rows.len();
-            assert_eq!((answer, &lent(&table)[..n]), (Ok(n), &rows[..]), "{document:02x?}");
+        Ok(n) => {
             assert!(n <= document.len());
-            assert_eq!(read_all(document, 6 * n).0, Ok(n));
-            assert_eq!(read_all(document, 6 * n - 1).0, Err((11, n as u64)));
+            for words in [0, 5, 6 * n - 6, 6 * n - 1] {
+                assert_eq!(filled(document, words), (Err((11, n)), vec![0; words]), "{document:02x?}");
+            }
+            for words in [6 * n, 6 * document.len() + 5] {
+                assert_eq!(filled(document, words), naive::fill(document, words), "{document:02x?}");
+            }
+            let (answer, table) = filled(document, 6 * n);
+            assert_eq!(answer, measured);
+            let rows = lent(&table).to_vec();
             accepted(document, &rows);
             Some(rows)
         }
@@ -138,7 +152,7 @@ fn accepted(document: &[u8], rows: &[Row]) {
     assert!(less.iter().all(|byte| *byte == 0xaa));
     out.truncate(written);
 
-    let (answer, back) = read_all(&out, 6 * n);
+    let (answer, back) = filled(&out, 6 * n);
     assert_eq!(answer, Ok(n));
     for (row, (a, b)) in rows.iter().zip(lent(&back)).enumerate() {
         assert_eq!(carried(a, document), carried(b, &out));
@@ -229,6 +243,19 @@ fn noisy_bytes() {
     }
 }
 
+/// No bytes; one more than the limit, where measuring and filling ask nothing else.
+#[test]
+fn no_bytes_and_too_many() {
+    assert_eq!(reads_right(&[]), None);
+    for document in [vec![0x02; 16_777_216], vec![0x0e; 16_777_216]] {
+        assert_eq!((plain(measure(&document)), naive::measure(&document)), (Err((1, 0)), Err((1, 0))));
+        for words in [0, 5, 6, 13] {
+            assert_eq!(filled(&document, words), (Err((1, 0)), vec![0; words]));
+            assert_eq!(filled(&document, words), naive::fill(&document, words));
+        }
+    }
+}
+
 #[test]
 fn every_document_of_two_bytes() {
     for bytes in 0..=u16::MAX {
@@ -243,7 +270,7 @@ fn changed_tables() {
     for _ in 0..DOCUMENTS {
         let node = random_tree(&mut random);
         let data = longer(&node, &mut random);
-        let mut rows = naive::read(&data).unwrap();
+        let mut rows = naive::rows(&data).unwrap();
         for _ in 0..8 {
             let mut rows = rows.clone();
             for _ in 0..1 + random.below(2) {
@@ -277,7 +304,7 @@ fn unchecked(rows: &[Row], data: &[u8], random: &mut Random) -> bool {
     let mut out = vec![0xaa; 40 * n + 2 * data.len()];
     match write(table, n, data, &mut out) {
         Ok(written) => {
-            let (answer, back) = read_all(&out[..written], 6 * n);
+            let (answer, back) = filled(&out[..written], 6 * n);
             assert!(right && answer == Ok(n));
             assert!(rows.iter().zip(lent(&back)).all(|(a, b)| carried(a, data) == carried(b, &out)));
         }

@@ -155,7 +155,7 @@ fn all_carried(rows: &[Row], data: &[u8]) -> Vec<(Row, Vec<u8>)> {
 fn what_is_written_is_read_back() {
     for (asked, used) in all_written() {
         let document = &asked.out[..used];
-        let rows = naive::read(document).unwrap();
+        let rows = naive::rows(document).unwrap();
         assert!(all_carried(&rows, document) == all_carried(asked.rows(), &asked.case.data), "{:02x?}", asked.case);
     }
 }
@@ -168,7 +168,7 @@ fn no_other_form_is_shorter() {
         if seen.insert(asked.out[..used].to_vec()) {
             for longer in one_longer(&tree(asked.rows(), &mut 0, &asked.case.data)) {
                 assert!(longer.len() >= used, "{:02x?} {longer:02x?}", asked.case);
-                let rows = naive::read(&longer).unwrap();
+                let rows = naive::rows(&longer).unwrap();
                 assert!(all_carried(&rows, &longer) == all_carried(asked.rows(), &asked.case.data));
                 others += 1;
             }

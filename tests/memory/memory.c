@@ -92,25 +92,27 @@ static void operations(const uint32_t *table, size_t words, size_t n, const uint
     }
 }
 
-/* Reads into a table of so many words: all of them are written. */
-static uint32_t *read_into(const uint8_t *data, size_t length, size_t words, uint64_t *answer) {
+/* Fills a table of so many words, all of which are written. It answers as measured, or 11 where the rows are not lent. */
+static uint32_t *filled(const uint8_t *data, size_t length, uint64_t measured, size_t words) {
     uint32_t *table = lend_words(words);
-    *answer = panxidell_read(data, length, table, words);
+    uint64_t answer = panxidell_fill(data, length, table, words), rows = panxidell_beside(measured);
+    if (!panxidell_number(measured) && rows > words / 6) measured = UINT64_C(11) << 56 | rows;
+    if (answer != measured) fail("fill does not answer as measured");
     written(table, 4 * words);
     calls++;
     return table;
 }
 
-/* The table of a right document, or none. */
+/* The table of a right document, or none. No words are lent, and five; a row and a word too few; and rows enough. */
 static uint32_t *document(const uint8_t *data, size_t length, size_t *words) {
-    uint64_t answer;
-    free(read_into(data, length, 0, &answer));
-    size_t rows = panxidell_number(answer) == 11 ? (size_t)panxidell_beside(answer) : 2;
-    free(read_into(data, length, 6 * rows - 1, &answer));
-    free(read_into(data, length, 6 * rows + 7, &answer));
+    uint64_t measured = panxidell_measure(data, length);
+    calls++;
+    size_t rows = panxidell_number(measured) ? 2 : (size_t)panxidell_beside(measured);
     *words = 6 * rows;
-    uint32_t *table = read_into(data, length, *words, &answer);
-    if (panxidell_number(answer)) {
+    size_t lent[] = {0, 5, *words - 6, *words - 1, *words + 7};
+    for (size_t i = 0; i < sizeof lent / sizeof *lent; i++) free(filled(data, length, measured, lent[i]));
+    uint32_t *table = filled(data, length, measured, *words);
+    if (panxidell_number(measured)) {
         free(table);
         return NULL;
     }

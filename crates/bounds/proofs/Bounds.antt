@@ -32,7 +32,9 @@ use Rattle.format.specs.declared.answer.Answer.{Answer}
 use Rattle.format.specs.declared.answer.Answer.the-variants.{Accepted, TooLong, Full}
 use Rattle.format.specs.Tree.{size}
 use Rattle.format.specs.Value.{Reading, right, wrong, document}
-use Rattle.format.specs.Answer.{answerFor, answer, answerBeside}
+use Rattle.format.specs.declared.needed.Needed.{Needed}
+use Rattle.format.specs.declared.needed.Needed.the-variants as needs
+use Rattle.format.specs.Answer.{answerFor, answer, answerBeside, neededFor, needed, neededBeside}
 use Rattle.format.proofs.Values.{document-rows, document-within}
 use Rattle.rules.specs.Grow.{rulesHold}
 use Rattle.rules.proofs.Exact.{yes-stands}
@@ -72,6 +74,20 @@ beside depth s table =
         (λ _. omega (arith, document-rows depth s t next e))
         (λ _. omega (arith, document-rows depth s t next e))
     of l (wrong e place) q = omega (arith, document-within depth s e place q)
+
+needed-low : (depth : ℕ) (s : List ℕ) → neededBeside (needed depth s) ≤ limit
+unfolding needed
+needed-low depth s =
+    cond-case (λ (a : Needed). neededBeside a ≤ limit) (leb (length s) limit) (neededFor (document depth s)) needs.TooLong
+    (λ h. of (leb-true (length s) limit h) (document depth s) refl)
+    (λ _. omega arith)
+  where
+    of : length s ≤ limit → (x : Reading) → document depth s ≡ x → neededBeside (neededFor x) ≤ limit
+    of l (right t next) e = omega (arith, document-rows depth s t next e)
+    of l (wrong e place) q = omega (arith, document-within depth s e place q)
+
+pub needed-beside : (depth : ℕ) (s : List ℕ) (a : Needed) → a ≡ needed depth s → neededBeside a < 2 ^ 56
+needed-beside depth s a e = omega (arith, needed-low depth s, ap neededBeside e)
 
 pub answer-beside : (depth : ℕ) (s table : List ℕ) (a : Answer) → a ≡ answer depth s table → answerBeside a < 2 ^ 56
 answer-beside depth s table a e = omega (arith, beside depth s table, ap answerBeside e)

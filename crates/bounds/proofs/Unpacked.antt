@@ -14,22 +14,26 @@ use Rattle.variable.specs.declared.answer.Written.{Written as Coded}
 use Rattle.variable.specs.Answer.{readOf, readNumber, readUsed, writtenOf, codedNumber, codedBeside}
 use Rattle.wide.proofs.Families.{cond-case}
 use Rattle.rows.specs.Table.{limit}
-use Rattle.format.specs.Answer.{answer, answerNumber, answerBeside}
+use Rattle.format.specs.Answer.{answer, answerNumber, answerBeside, needed, neededNumber, neededBeside}
 use Rattle.checker.specs.Checked.{checked, checkedNumber, checkedBeside}
 use Rattle.writer.specs.Written.{written, writtenNumber, writtenBeside}
 use Rattle.walker.specs.declared.standing.Standing.{Standing}
 use Rattle.walker.specs.declared.step.Step.{Step}
 use Rattle.walker.specs.declared.step.Step.the-variants.{BadTable}
 use Rattle.walker.specs.Walk.{stepIn, stepOn, stepAlong}
-use Rattle.packing.specs.Packed.{packed, packedAnswer, packedChecked, packedWritten, packedCoded, packedStep, within}
+use Rattle.packing.specs.Packed.{packed, packedNeeded, packedAnswer, packedChecked, packedWritten, packedCoded, packedStep, within}
 use Rattle.packing.specs.Contracts.{LowStep}
 use Rattle.packing.proofs.Unpacks.{Unpacks, unpacks, Steps, steps}
 use Rattle.bounds.proofs.Bounds as bounds
 
-pub read-unpacks : (depth : ℕ) (s table : List ℕ)
+pub measure-unpacks : (depth : ℕ) (s : List ℕ) → Unpacks (packedNeeded (needed depth s)) (neededNumber (needed depth s)) (neededBeside (needed depth s))
+unfolding packedNeeded
+measure-unpacks depth s = unpacks _ _ (bounds.needed-beside depth s (needed depth s) refl)
+
+pub fill-unpacks : (depth : ℕ) (s table : List ℕ)
     → Unpacks (packedAnswer (answer depth s table)) (answerNumber (answer depth s table)) (answerBeside (answer depth s table))
 unfolding packedAnswer
-read-unpacks depth s table = unpacks _ _ (bounds.answer-beside depth s table (answer depth s table) refl)
+fill-unpacks depth s table = unpacks _ _ (bounds.answer-beside depth s table (answer depth s table) refl)
 
 pub check-unpacks : (depth : ℕ) (table : List ℕ) (n : ℕ) (s : List ℕ)
     → Unpacks (packedChecked (checked depth table n s)) (checkedNumber (checked depth table n s)) (checkedBeside (checked depth table n s))

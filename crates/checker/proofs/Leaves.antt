@@ -8,24 +8,25 @@ use lib.ListN.{length, getD}
 use lib.Dec.{ltb, eqb}
 use borrow.Author.Tests.{lt-ltb, le-ltb, eq-eqb, ne-eqb}
 use Rattle.rows.specs.declared.row.Row.{Row}
-use Rattle.rows.specs.Table.{ownOf, rowAt}
+use Rattle.rows.specs.Table.{ownOf, rowAt, limit}
 use Rattle.rows.specs.Kinds.{kindKey}
 use Rattle.registry.specs.Contracts.{walk, chain}
 use Rattle.registry.proofs.Walks.{length-chain, chain-at}
 use Rattle.format.specs.declared.refusal.Refusal.{Refusal}
 use Rattle.format.specs.declared.refusal.Refusal.the-variants as why
-use Rattle.format.specs.Value.{Reading, right, wrong, inForeign, value, whole}
-use Rattle.measure.specs.declared.measured.Measured.{Measured}
-use Rattle.measure.specs.declared.measured.Measured.the-variants as measured
-use Rattle.measure.specs.Measured.{measuredOf}
+use Rattle.format.specs.Value.{Reading, wrong, inForeign, value, whole}
+use Rattle.format.proofs.Steps.{whole-right, whole-extra, whole-wrong}
+use Rattle.format.proofs.Values.{value-read}
+use Rattle.measure.specs.Contracts.{measuredOf, told, placeIn, numberWrong, placeWrong, refusalOf}
+use Rattle.measure.proofs.Numbers.{ReadRight, read-right, read-wrong, wrong-number}
 use Rattle.rules.specs.declared.shape.Shape.{Shape}
 use Rattle.rules.specs.declared.shape.Shape.the-variants.{Bad, Leaf, Refer, Hold, Declare, Whole, Damaged}
-use Rattle.format.specs.Tree.{leaf}
+use Rattle.format.specs.Tree.{leaf, damaged}
 use Rattle.rules.specs.Shape.{spelt, shapeOf, keyFits}
 use Rattle.rules.specs.Grow.{Growth, grew, bad, endsAt, keyRow, growKey, pointing, judged}
 use Rattle.checker.specs.declared.extent.Extent.{Extent}
 use Rattle.checker.specs.declared.extent.Extent.the-variants.{Until, Broken}
-use Rattle.checker.specs.Contracts.{isAlone, standsAlone, extentOf, endingAt}
+use Rattle.checker.specs.Contracts.{isAlone, standsAlone, extentOf, endingAt, verdictIs}
 use Rattle.format.specs.Refusal.{refusalNumber}
 
 -- ---- where a row ends
@@ -52,14 +53,14 @@ module _ (s : List ℕ) (row : ℕ) (w : Row) where
   key-other h = rw (ne-eqb (w .kind) kindKey h)
 
   module _ (is : w .kind ≡ kindKey) (b : Bool) (words : b ≡ spelt s (ownOf w)) where
-    told : (v : Bool) → b ≡ v → keyFits s (ownOf w) ≡ v
-    told v e = rw (eq-eqb (w .kind) kindKey is) (sym words ∙ e)
+    fits-as : (v : Bool) → b ≡ v → keyFits s (ownOf w) ≡ v
+    fits-as v e = rw (eq-eqb (w .kind) kindKey is) (sym words ∙ e)
 
     pub key-yes : (r : Extent) → b ≡ true → r ≡ endingAt (w .end) (Until (row + 1)) → r ≡ extentOf (keyRow s row w)
-    key-yes r e f = rw (told true e) (f ∙ sym (ends-grown (w .end) (grew (leaf (ownOf w)) (row + 1))))
+    key-yes r e f = rw (fits-as true e) (f ∙ sym (ends-grown (w .end) (grew (leaf (ownOf w)) (row + 1))))
 
     pub key-no : b ≡ false → Broken ≡ extentOf (keyRow s row w)
-    key-no e = rw (told false e)
+    key-no e = rw (fits-as false e)
 
 pub key-in : (table : List ℕ) (n : ℕ) (s : List ℕ) (row : ℕ) (w : Row) (r : Extent) → row < n → w ≡ rowAt table row → r ≡ extentOf (keyRow s row w) → r ≡ extentOf (growKey table n s row)
 unfolding growKey
@@ -124,44 +125,48 @@ module _ (table : List ℕ) (first k row : ℕ) (w : Row) (number : ℕ) (is : n
   pub refer-out : k ≤ number → Broken ≡ extentOf (pointing (chain table first k) row (ownOf w))
   refer-out l = rw (le-ltb (w .w0) (length (chain table first k)) (omega (arith, length-chain table first k)))
 
--- ---- a damaged body
+-- ---- a damaged body, whose bytes are measured; the number m tells them
 
-module _ (row : ℕ) (w : Row) (e : Refusal) (place v : ℕ) (is : v ≡ refusalNumber e) where
-  pub verdict-yes : w .w2 ≡ v → Until (row + 1) ≡ extentOf (judged row (ownOf w) (wrong e place))
-  verdict-yes h = rw (eq-eqb (w .w2) (refusalNumber e) (h ∙ is))
+judged-wrong : (row : ℕ) (w : Row) (x : Reading) (e : Refusal) (p v : ℕ) → x ≡ wrong e p → v ≡ refusalNumber e → verdictIs row (w .w2) v ≡ extentOf (judged row (ownOf w) x)
+judged-wrong row w x e p v h is = rw (h, is) (go (eqb (w .w2) (refusalNumber e)))
+  where
+    go : (b : Bool) → cond b (Until (row + 1)) Broken ≡ extentOf (cond b (grew (damaged (ownOf w)) (row + 1)) bad)
+    go true = refl
+    go false = refl
 
-  pub verdict-no : (w .w2 ≡ v → ⊥) → Broken ≡ extentOf (judged row (ownOf w) (wrong e place))
-  verdict-no h = rw (ne-eqb (w .w2) (refusalNumber e) (λ x. h (x ∙ sym is)))
+module _ (s : List ℕ) (row d around k place size : ℕ) (w : Row) (in-force : k ≡ inForeign around) (f : place ≡ w .w0) (g : size ≡ w .w1) (m : ℕ)
+    (read : m ≡ told (measuredOf (value d s k place (place + size)))) (inside : w .w0 + w .w1 ≤ length s) (big : length s ≤ limit) where
+  abbrev stop : ℕ
+  stop = w .w0 + w .w1
 
-body-whole : (row : ℕ) (w : Row) (stop : ℕ) (x : Reading) (r next : ℕ) → measuredOf x ≡ measured.Right r next → next ≡ stop → Broken ≡ extentOf (judged row (ownOf w) (whole stop x))
-body-whole row w stop (right t m) r next e h = let i : m ≡ stop = cc in rw (eq-eqb m stop i)
-body-whole row w stop (wrong y p) r next e h = cc
-
-body-extra : (stop : ℕ) (x : Reading) (r next : ℕ) → measuredOf x ≡ measured.Right r next → (next ≡ stop → ⊥) → whole stop x ≡ wrong why.Extra next
-body-extra stop (right t m) r next e h = let i : m ≡ next = cc in rw (i, ne-eqb next stop h)
-body-extra stop (wrong y p) r next e h = cc
-
-body-wrong : (stop : ℕ) (x : Reading) (y : Refusal) (p : ℕ) → measuredOf x ≡ measured.Wrong y p → whole stop x ≡ wrong y p
-body-wrong stop (right t m) y p e = cc
-body-wrong stop (wrong u q) y p e = cc
-
-module _ (s : List ℕ) (row d around k place size : ℕ) (w : Row) (in-force : k ≡ inForeign around) (f : place ≡ w .w0) (g : size ≡ w .w1) (m : Measured)
-    (read : m ≡ measuredOf (value d s k place (place + size))) where
   abbrev x : Reading
-  x = value d s (inForeign around) (w .w0) (w .w0 + w .w1)
+  x = value d s (inForeign around) (w .w0) stop
 
-  there : m ≡ measuredOf x
-  there = read ∙ ap₂ (λ (a b : ℕ). measuredOf (value d s k a (a + b))) f g ∙ ap (λ (a : ℕ). measuredOf (value d s a (w .w0) (w .w0 + w .w1))) in-force
+  there : m ≡ told (measuredOf x)
+  there =
+      read ∙ ap₂ (λ (a b : ℕ). told (measuredOf (value d s k a (a + b)))) f g ∙ ap (λ (a : ℕ). told (measuredOf (value d s a (w .w0) stop))) in-force
 
-  ends : place + size ≡ w .w0 + w .w1
+  ends : place + size ≡ stop
   ends = ap₂ (λ (a b : ℕ). a + b) f g
 
-  pub damaged-whole : (r next : ℕ) → m ≡ measured.Right r next → next ≡ place + size → Broken ≡ extentOf (judged row (ownOf w) (whole (w .w0 + w .w1) x))
-  damaged-whole r next e h = body-whole row w (w .w0 + w .w1) x r next (sym there ∙ e) (h ∙ ends)
-
-  pub damaged-extra : (r next : ℕ) (q : Extent) → m ≡ measured.Right r next → (next ≡ place + size → ⊥) → q ≡ extentOf (judged row (ownOf w) (wrong why.Extra next))
+  pub damaged-wrong : 72057594037927936 ≤ m → (v : ℕ) (q : Extent) → v ≡ numberWrong m → q ≡ verdictIs row (w .w2) v
       → q ≡ extentOf (judged row (ownOf w) (whole (w .w0 + w .w1) x))
-  damaged-extra r next q e h j = j ∙ sym (ap (λ (z : Reading). extentOf (judged row (ownOf w) z)) (body-extra (w .w0 + w .w1) x r next (sym there ∙ e) (λ z. h (z ∙ sym ends))))
+  damaged-wrong h v q is j =
+      let e : x ≡ wrong (refusalOf (numberWrong m)) (placeWrong m) =
+      read-wrong (w .w0) stop x (value-read d s (inForeign around) (w .w0) stop) (omega arith) (omega arith) m there h in
+      j ∙ judged-wrong row w (whole stop x) (refusalOf (numberWrong m)) (placeWrong m) v (whole-wrong stop x _ _ e)
+      (is ∙ wrong-number (w .w0) stop x (value-read d s (inForeign around) (w .w0) stop) (omega arith) (omega arith) m there _ _ e)
 
-  pub damaged-wrong : (y : Refusal) (p : ℕ) (q : Extent) → m ≡ measured.Wrong y p → q ≡ extentOf (judged row (ownOf w) (wrong y p)) → q ≡ extentOf (judged row (ownOf w) (whole (w .w0 + w .w1) x))
-  damaged-wrong y p q e j = j ∙ sym (ap (λ (z : Reading). extentOf (judged row (ownOf w) z)) (body-wrong (w .w0 + w .w1) x y p (sym there ∙ e)))
+  module _ (h : m < 72057594037927936) (next : ℕ) (n : next ≡ placeIn m) where
+    right-there : ReadRight x m
+    right-there = read-right (w .w0) stop x (value-read d s (inForeign around) (w .w0) stop) (omega arith) (omega arith) m there h
+
+    pub damaged-whole : next ≡ place + size → Broken ≡ extentOf (judged row (ownOf w) (whole (w .w0 + w .w1) x))
+    damaged-whole e =
+        sym (ap (λ (z : Reading). extentOf (judged row (ownOf w) z)) (whole-right stop x (right-there .tree) (placeIn m) (right-there .is) (sym n ∙ e ∙ ends)))
+
+    pub damaged-extra : (next ≡ place + size → ⊥) → (v : ℕ) (q : Extent) → v ≡ refusalNumber why.Extra → q ≡ verdictIs row (w .w2) v
+        → q ≡ extentOf (judged row (ownOf w) (whole (w .w0 + w .w1) x))
+    damaged-extra e v q is j =
+        j ∙ judged-wrong row w (whole stop x) why.Extra (placeIn m) v
+        (whole-extra stop x (right-there .tree) (placeIn m) (right-there .is) (λ z. e (n ∙ z ∙ sym ends))) is

@@ -60,3 +60,7 @@ extentAll badAll = Broken
 abbrev pub endingAt : ℕ → Extent → Extent
 endingAt end (Until next) = cond (eqb next end) (Until next) Broken
 endingAt end Broken = Broken
+
+-- a damaged row whose verdict is `said`, where reading its bytes gave the refusal of that number
+abbrev pub verdictIs : ℕ → ℕ → ℕ → Extent
+verdictIs row said number = cond (eqb said number) (Until (row + 1)) Broken

@@ -4,12 +4,12 @@ ghost use Prim.Native.Nat.{_+_, _≤_, _<_};
 ghost use lib.ListN.{length};
 ghost use Rattle.rows.specs.Table.{ownOf, lent, limit};
 ghost use Rattle.registry.specs.Contracts.{chain, Below, firstIn, Based};
-ghost use Rattle.format.specs.Value.{inForeign, value, whole, wrong};
+ghost use Rattle.format.specs.Value.{inForeign, value, whole};
 ghost use Rattle.rules.specs.Grow.{keyRow, growKey, pointing, judged};
-ghost use Rattle.checker.specs.Contracts.{isAlone, standsAlone, extentOf, endingAt};
+ghost use Rattle.checker.specs.Contracts.{isAlone, standsAlone, extentOf, endingAt, verdictIs};
 use crate::extent::Extent;
 use format::Refusal;
-use measure::Measured;
+use measure::told;
 use rows::Row;
 use rules::Shape;
 
@@ -101,12 +101,12 @@ pub fn check_reference(table: &[u32], row: usize, base: usize, around: usize, w:
     Extent::Broken
 }
 
-// The verdict of a damaged body is what reading it gave.
-fn verdict_is(row: usize, w: Row, why: Refusal, place: usize) -> Extent
+// The verdict of a damaged body is the number that reading it gave.
+fn verdict_is(row: usize, w: Row, number: u32) -> Extent
     requires { ⌜ row < limit ⌝ }
-    ensures { λ r. ⌜ r ≡ extentOf (judged row (ownOf w) (wrong why place)) ⌝ }
+    ensures { λ r. ⌜ r ≡ verdictIs row (w .w2) number ⌝ }
 {
-    if w.w2 == why.number() {
+    if w.w2 == number {
         return Extent::Until { next: row + 1 };
     }
     Extent::Broken
@@ -114,19 +114,17 @@ fn verdict_is(row: usize, w: Row, why: Refusal, place: usize) -> Extent
 
 // A damaged foreign body: its bytes are measured where they stand.
 pub fn check_damaged(s: &[u8], row: usize, levels: usize, around: usize, w: Row) -> Extent
-    requires { ⌜ (row < limit) × (w .w0 + w .w1 ≤ length (now s)) ⌝ }
+    requires { ⌜ (row < limit) × (w .w0 + w .w1 ≤ length (now s)) × (length (now s) ≤ limit) ⌝ }
     ensures { λ r. ⌜ r ≡ extentOf (judged row (ownOf w) (whole (w .w0 + w .w1) (value levels (now (s .entry)) (inForeign around) (w .w0) (w .w0 + w .w1)))) ⌝ }
 {
     let place = rows::number(w.w0);
     let end = place + rows::number(w.w1);
-    let m = measure::measure_value(s, place, end, levels, format::in_foreign(around));
-    match m {
-        Measured::Right { rows: _, next } => {
-            if next == end {
-                return Extent::Broken;
-            }
-            verdict_is(row, w, Refusal::Extra, next)
-        }
-        Measured::Wrong { why, place: found } => verdict_is(row, w, why, found),
+    let f = measure::measure_value(s, place, end, levels, format::in_foreign(around));
+    if told::WRONG <= f {
+        return verdict_is(row, w, told::number_in(f));
     }
+    if told::place_in(f) == end {
+        return Extent::Broken;
+    }
+    verdict_is(row, w, Refusal::Extra.number())
 }

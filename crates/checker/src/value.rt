@@ -2,6 +2,7 @@
 ghost use mathlib.Core.Path.{_≡_};
 ghost use mathlib.Core.List.{[]};
 ghost use Prim.Native.Nat.{_+_, _≤_, _<_};
+ghost use lib.ListN.{length};
 ghost use Rattle.rows.specs.Table.{ownOf, lent, limit};
 ghost use Rattle.rows.specs.Kinds.{declarationOwn};
 ghost use Rattle.registry.specs.Contracts.{chain, firstIn, Based};
@@ -30,7 +31,7 @@ pub fn check_value(
     base: usize,
     around: usize,
 ) -> Extent
-    requires { ⌜ EntriesBefore (now table) n (firstIn base) around row × Based (now table) base around ⌝ }
+    requires { ⌜ EntriesBefore (now table) n (firstIn base) around row × Based (now table) base around × (length (now s) ≤ limit) ⌝ }
     ensures { λ r. ⌜ r ≡ extentOf (grow (now (table .entry)) n (now (s .entry)) levels (chain (now (table .entry)) (firstIn base) around) row) ⌝ }
 {
     if levels == 0 {
@@ -57,7 +58,7 @@ fn check_row(
     w: Row,
     shape: Shape,
 ) -> Extent
-    requires { ⌜ EntriesBefore (now table) n (firstIn base) around row × Based (now table) base around × (row < n) ⌝ }
+    requires { ⌜ EntriesBefore (now table) n (firstIn base) around row × Based (now table) base around × (row < n) × (length (now s) ≤ limit) ⌝ }
     requires { ⌜ shape ≡ shapeOf (now s) (ownOf w) ⌝ }
     ensures { λ r. ⌜ r ≡ extentOf (byShape (now (table .entry)) n (now (s .entry)) (grow (now (table .entry)) n (now (s .entry)) levels) levels (chain (now (table .entry)) (firstIn base) around) row (ownOf w) shape) ⌝ }
 {
@@ -95,7 +96,7 @@ fn check_declared(
     levels: usize,
     count: usize,
 ) -> Extent
-    requires { ⌜ (n ≤ lent (now table)) × (n ≤ limit) × (row ≤ n) ⌝ }
+    requires { ⌜ (n ≤ lent (now table)) × (n ≤ limit) × (row ≤ n) × (length (now s) ≤ limit) ⌝ }
     ensures { λ r. ⌜ r ≡ extentOf (overEntries (grow (now (table .entry)) n (now (s .entry)) levels) (declarationOwn count) row (grows (now (table .entry)) n (now (s .entry)) (grow (now (table .entry)) n (now (s .entry)) levels) Entries [] 0 count row)) ⌝ }
 {
     let es = check_children(table, n, s, row, levels, row, 0, Children::Entries, count);
@@ -120,7 +121,7 @@ fn check_child(
     children: Children,
     i: usize,
 ) -> Extent
-    requires { ⌜ EntriesBefore (now table) n (firstIn base) (inForce children around i) row × Based (now table) base (inForce children around i) ⌝ }
+    requires { ⌜ EntriesBefore (now table) n (firstIn base) (inForce children around i) row × Based (now table) base (inForce children around i) × (length (now s) ≤ limit) ⌝ }
     ensures { λ r. ⌜ r ≡ extentOf (item (now (table .entry)) n (now (s .entry)) (isKey children i) (grow (now (table .entry)) n (now (s .entry)) levels) (chain (now (table .entry)) (firstIn base) (inForce children around i)) row) ⌝ }
 {
     if children.is_key(i) {
@@ -146,7 +147,7 @@ fn check_children(
     children: Children,
     count: usize,
 ) -> Extent
-    requires { ⌜ EntriesBeforeChild (now table) n (firstIn base) around children 0 row × BasedForChild (now table) base around children ⌝ }
+    requires { ⌜ EntriesBeforeChild (now table) n (firstIn base) around children 0 row × BasedForChild (now table) base around children × (length (now s) ≤ limit) ⌝ }
     ensures { λ r. ⌜ r ≡ extentAll (grows (now (table .entry)) n (now (s .entry)) (grow (now (table .entry)) n (now (s .entry)) levels) children (chain (now (table .entry)) (firstIn base) (inForce children around 0)) 0 count row) ⌝ }
 {
     let mut i = 0;

@@ -18,9 +18,10 @@ use Rattle.format.specs.declared.answer.Answer.the-variants.{Accepted, TooLong,
 use Rattle.format.specs.Tree.{Tree, size}
 use Rattle.format.specs.Value.{Reading, right, wrong, document}
 use Rattle.format.specs.Layout.{layout}
-use Rattle.format.specs.Answer.{answer, answerFor, filled, tableAfter}
+use Rattle.format.specs.declared.needed.Needed.the-variants as needs
+use Rattle.format.specs.Answer.{answer, answerFor, answerNumber, answerBeside, filled, tableAfter, needed, neededFor, neededNumber, neededBeside}
 use Rattle.format.specs.Starred.{starred}
-use Rattle.format.proofs.Values.{document-next}
+use Rattle.format.proofs.Values.{document-next, verdict-high}
 use Rattle.rules.specs.Shape.{named}
 use Rattle.rules.specs.Grow.{rulesHold}
 use Rattle.rules.specs.Obeys.{Stands}
@@ -138,9 +139,83 @@ module _ (depth : ℕ) (s table : List ℕ) where
         rw (le-leb (length s) limit (d .0 .few), d .0 .reads, lt-leb (size (d .0 .tree)) (lent table) (omega (arith, k, d .1)), k),
   )
 
-  -- what the reader lays passes the check
+  -- what filling lays passes the check
   pub read-passes : (n : ℕ) → answer depth s table ≡ Accepted n → rulesHold depth (tableAfter depth s table) n s ≡ true
   read-passes n e = exact.read-yes depth s table n e
+
+-- ==== Request §9: measuring, and filling
+
+module _ (depth : ℕ) (s : List ℕ) where
+  -- "Refusals: measuring never gives 11."
+  pub never-full : neededNumber (needed depth s) ≡ 11 → ⊥
+  unfolding needed
+  never-full e = of (leb (length s) limit) (document depth s) e
+    where
+      of : (b : Bool) (r : Reading) → neededNumber (cond b (neededFor r) needs.TooLong) ≡ 11 → ⊥
+      of true (right t next) e = omega arith
+      of true (wrong y place) e = omega (arith, verdict-high y)
+      of false r e = omega arith
+
+  -- "measuring .. answers the rows": exactly those of the paper's documents
+  pub measures-exactly : (n : ℕ) → (needed depth s ≡ needs.Rows n) ↔ Document depth s n
+  unfolding needed
+  measures-exactly n = (of (leb (length s) limit) (document depth s) refl refl, λ d. rw (le-leb (length s) limit (d .few), d .reads, d .rows-are))
+    where
+      of : (b : Bool) (r : Reading) → leb (length s) limit ≡ b → document depth s ≡ r → cond b (neededFor r) needs.TooLong ≡ needs.Rows n → Document depth s n
+      of true (right t next) l e f =
+          let k : size t ≡ n = cc in
+          record { few = leb-true (length s) limit l; tree = t; reads = e ∙ ap (right t) (document-next depth s t next e); rows-are = k }
+      of true (wrong y place) l e f = absurd (let z : _≡_ {A = ℕ} 0 1 = cc in omega arith)
+      of false r l e f = absurd (let z : _≡_ {A = ℕ} 0 1 = cc in omega arith)
+
+  module _ (table : List ℕ) where
+    -- filling accepts exactly when measuring gives rows and they are lent, and the same number of them
+    pub fills-exactly : (n : ℕ) → (answer depth s table ≡ Accepted n) ↔ ((needed depth s ≡ needs.Rows n) × (n ≤ lent table))
+    fills-exactly n = (
+      λ e. let d = accepts-exactly depth s table n .0 e in (measures-exactly n .1 (d .0), d .1),
+      λ m. accepts-exactly depth s table n .1 (measures-exactly n .0 (m .0), m .1),
+    )
+
+    -- "A table of exactly the measured rows is never too small."
+    pub never-too-small : (n : ℕ) → needed depth s ≡ needs.Rows n → lent table ≡ n → answer depth s table ≡ Accepted n
+    never-too-small n m e = fills-exactly n .1 (m, omega (arith, e))
+
+    -- it says 11 exactly when they are not, with the rows that measuring gives
+    pub full-measured : (n : ℕ) → (answer depth s table ≡ Full n) ↔ ((needed depth s ≡ needs.Rows n) × (lent table < n))
+    full-measured n = (
+      λ e. let d = full-exactly depth s table n .0 e in (measures-exactly n .1 (d .0), d .1),
+      λ m. full-exactly depth s table n .1 (measures-exactly n .0 (m .0), m .1),
+    )
+
+    -- what measuring refuses, filling refuses with the same number and the same place
+    pub refused-alike : (neededNumber (needed depth s) ≡ 0 → ⊥)
+        → (answerNumber (answer depth s table) ≡ neededNumber (needed depth s)) × (answerBeside (answer depth s table) ≡ neededBeside (needed depth s))
+    unfolding needed answer
+    refused-alike h = of (leb (length s) limit) (document depth s) h
+      where
+        of : (b : Bool) (r : Reading) → (neededNumber (cond b (neededFor r) needs.TooLong) ≡ 0 → ⊥)
+            → (answerNumber (cond b (answerFor (lent table) r) TooLong) ≡ neededNumber (cond b (neededFor r) needs.TooLong))
+            × (answerBeside (cond b (answerFor (lent table) r) TooLong) ≡ neededBeside (cond b (neededFor r) needs.TooLong))
+        of true (right t next) h = absurd (h refl)
+        of true (wrong y place) h = (refl, refl)
+        of false r h = (refl, refl)
+
+    -- and what filling refuses otherwise than as full, measuring refuses so
+    pub refused-both : (answerNumber (answer depth s table) ≡ 0 → ⊥) → (answerNumber (answer depth s table) ≡ 11 → ⊥)
+        → (answerNumber (answer depth s table) ≡ neededNumber (needed depth s)) × (answerBeside (answer depth s table) ≡ neededBeside (needed depth s))
+    unfolding needed answer
+    refused-both h g = of (leb (length s) limit) (document depth s) h g
+      where
+        room : (b : Bool) (t : Tree) → (answerNumber (cond b (Accepted (size t)) (Full (size t))) ≡ 0 → ⊥) → (answerNumber (cond b (Accepted (size t)) (Full (size t))) ≡ 11 → ⊥) → ⊥
+        room true t h g = h refl
+        room false t h g = g refl
+
+        of : (b : Bool) (r : Reading) → (answerNumber (cond b (answerFor (lent table) r) TooLong) ≡ 0 → ⊥) → (answerNumber (cond b (answerFor (lent table) r) TooLong) ≡ 11 → ⊥)
+            → (answerNumber (cond b (answerFor (lent table) r) TooLong) ≡ neededNumber (cond b (neededFor r) needs.TooLong))
+            × (answerBeside (cond b (answerFor (lent table) r) TooLong) ≡ neededBeside (cond b (neededFor r) needs.TooLong))
+        of true (right t next) h g = absurd (room (leb (size t) (lent table)) t h g)
+        of true (wrong y place) h g = (refl, refl)
+        of false r h g = (refl, refl)
 
 module _ (depth : ℕ) (table : List ℕ) (n : ℕ) (s : List ℕ) (fit : (i : ℕ) → getD table i 0 < 2 ^ 32) where
   -- "A table that passes the check, written with room and within the size limit, reads back as the same rows and payload bytes, places aside"

@@ -25,7 +25,7 @@ pub fn write_and_read(
     let w = writer::write(table, n, data, out);
     match w {
         Written::Done { used } => {
-            let answer = reader::read(&out[..used as usize], back);
+            let answer = reader::fill(&out[..used as usize], back);
             Back::Read { answer }
         }
         Written::BadTable => Back::Unwritten { why: w },

@@ -249,6 +249,10 @@ module _ (depth : ℕ) (s : List ℕ) (t : Tree) (next : ℕ) (read : document d
   pub document-some : 1 ≤ size t
   document-some = value-some (suc depth) s 0 0 (length s) t next document-value
 
+pub document-read : (depth : ℕ) (s : List ℕ) → ReadAt 0 (length s) (document depth s)
+unfolding document
+document-read depth s = whole-read 0 (length s) (value (suc depth) s 0 0 (length s)) (value-read (suc depth) s 0 0 (length s))
+
 pub document-within : (depth : ℕ) (s : List ℕ) (e : Refusal) (place : ℕ) → document depth s ≡ wrong e place → place ≤ length s
 unfolding document
 document-within depth s e place q =

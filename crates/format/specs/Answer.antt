@@ -1,4 +1,4 @@
--- The reader's answer, and the table afterwards. Assumes nothing: these are definitions.
+-- What measuring and filling answer, and the table afterwards. Assumes nothing: these are definitions.
 use Prim.Native.Nat.{ℕ}
 use mathlib.Core.Bool.{cond}
 use mathlib.Core.List.{List, []}
@@ -9,6 +9,8 @@ use Rattle.lists.specs.Zeroed.{zeroed}
 use Rattle.rows.specs.Table.{lent, limit}
 use Rattle.format.specs.declared.answer.Answer.{Answer}
 use Rattle.format.specs.declared.answer.Answer.the-variants.{Accepted, TooLong, Refused, Full}
+use Rattle.format.specs.declared.needed.Needed.{Needed}
+use Rattle.format.specs.declared.needed.Needed.the-variants as needs
 use Rattle.format.specs.Refusal.{refusalNumber}
 use Rattle.format.specs.Tree.{size}
 use Rattle.format.specs.Value.{Reading, right, wrong, document}
@@ -18,7 +20,15 @@ use Rattle.format.specs.Layout.{layout}
 abbrev pub depthLimit : ℕ
 depthLimit = 32
 
--- "11 full: right, but more rows than lent", with the rows needed
+-- "measuring takes no table and answers the rows or the refusal"
+abbrev pub neededFor : Reading → Needed
+neededFor (right t next) = needs.Rows (size t)
+neededFor (wrong e place) = needs.Refused e place
+
+unfoldable pub needed : ℕ → List ℕ → Needed
+needed depth s = cond (leb (length s) limit) (neededFor (document depth s)) needs.TooLong
+
+-- "filling takes bytes and table and answers as reading did": "11 full: right, but more rows than lent", with the rows needed
 abbrev pub answerFor : ℕ → Reading → Answer
 answerFor rows (right t next) = cond (leb (size t) rows) (Accepted (size t)) (Full (size t))
 answerFor rows (wrong e place) = Refused e place
@@ -47,3 +57,13 @@ answerBeside (Accepted rows) = rows
 answerBeside TooLong = 0
 answerBeside (Refused e place) = place
 answerBeside (Full needed) = needed
+
+abbrev pub neededNumber : Needed → ℕ
+neededNumber (needs.Rows rows) = 0
+neededNumber needs.TooLong = 1
+neededNumber (needs.Refused e place) = refusalNumber e
+
+abbrev pub neededBeside : Needed → ℕ
+neededBeside (needs.Rows rows) = rows
+neededBeside needs.TooLong = 0
+neededBeside (needs.Refused e place) = place

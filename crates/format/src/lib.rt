@@ -2,6 +2,7 @@
 mod answer;
 mod children;
 mod head;
+mod needed;
 mod number;
 mod refusal;
 
@@ -13,6 +14,7 @@ pub use head::Count;
 pub use head::Head;
 pub use head::Holder;
 pub use head::Spelling;
+pub use needed::Needed;
 pub use refusal::Refusal;
 
 // How deep positions nest where a caller does not say.

@@ -1,8 +1,9 @@
 // The paper's numbers for refusals and answers.
 ghost use mathlib.Core.Path.{_≡_};
 ghost use Rattle.format.specs.Refusal.{refusalNumber};
-ghost use Rattle.format.specs.Answer.{answerNumber, answerBeside};
+ghost use Rattle.format.specs.Answer.{answerNumber, answerBeside, neededNumber, neededBeside};
 use crate::answer::Answer;
+use crate::needed::Needed;
 use crate::refusal::Refusal;
 
 impl Refusal {
@@ -20,6 +21,30 @@ impl Refusal {
             Refusal::Empty => 8,
             Refusal::Deep => 9,
             Refusal::Extra => 10,
+        }
+    }
+}
+
+impl Needed {
+    // 0, or the refusal's number.
+    pub fn number(self) -> u32
+        ensures { λ r. ⌜ r ≡ neededNumber self ⌝ }
+    {
+        match self {
+            Needed::Rows { rows: _ } => 0,
+            Needed::TooLong => 1,
+            Needed::Refused { why, place: _ } => why.number(),
+        }
+    }
+
+    // The number beside it: rows, or a place.
+    pub fn beside(self) -> usize
+        ensures { λ r. ⌜ r ≡ neededBeside self ⌝ }
+    {
+        match self {
+            Needed::Rows { rows } => rows,
+            Needed::TooLong => 0,
+            Needed::Refused { why: _, place } => place,
         }
     }
 }

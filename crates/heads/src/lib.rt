@@ -7,4 +7,5 @@ mod position;
 pub use behind::key_at;
 pub use body::is_codepoint;
 pub use count::index;
+pub use count::length_at;
 pub use position::head_at;

@@ -1,24 +1,24 @@
 // The listing of a document, as the paper's program prints it.
-use format::Answer;
 use libc::STDOUT_FILENO;
 use rows::Row;
 
-// "read" or "refused", and its numbers.
-fn head(word: &[u8], answer: Answer) {
+// "read", and the rows.
+fn read(rows: usize) {
     let mut out = [0u8; 64];
-    let mut end = line::bytes(&mut out, 0, word);
+    let mut end = line::bytes(&mut out, 0, b"read");
     end = line::byte(&mut out, end, b' ');
-    end = line::decimal(&mut out, end, answer.beside() as u64);
+    end = line::decimal(&mut out, end, rows as u64);
     end = line::byte(&mut out, end, b'\n');
     io::write_all(STDOUT_FILENO, &out[..end]);
 }
 
-fn refused(answer: Answer) {
+// "refused", the number, and the number beside it.
+fn refused(number: u32, beside: usize) {
     let mut out = [0u8; 64];
     let mut end = line::bytes(&mut out, 0, b"refused");
-    end = line::number(&mut out, end, answer.number());
+    end = line::number(&mut out, end, number);
     end = line::byte(&mut out, end, b' ');
-    end = line::decimal(&mut out, end, answer.beside() as u64);
+    end = line::decimal(&mut out, end, beside as u64);
     end = line::byte(&mut out, end, b'\n');
     io::write_all(STDOUT_FILENO, &out[..end]);
 }
@@ -48,16 +48,21 @@ fn table_rows(table: &[u32], n: usize) {
     }
 }
 
-// Reads a document into 1,024 rows and prints them, or why it is refused.
+// Measures a document, fills 1,024 rows from it and prints them, or why it is refused.
 pub fn list(document: &[u8]) {
-    let mut table = [0u32; 6144];
-    let answer = reader::read(document, &mut table);
-    if answer.number() == 0 {
-        head(b"read", answer);
-        table_rows(&table, answer.beside());
-    } else {
-        refused(answer);
+    let needed = measure::measure(document);
+    if needed.number() != 0 {
+        refused(needed.number(), needed.beside());
+        return;
     }
+    let mut table = [0u32; 6144];
+    let answer = reader::fill(document, &mut table);
+    if answer.number() != 0 {
+        refused(answer.number(), answer.beside());
+        return;
+    }
+    read(answer.beside());
+    table_rows(&table, answer.beside());
 }
 
 // The paper's listing program: a document of up to 16,384 bytes on standard input.

@@ -1,35 +1,63 @@
 // How many rows a document needs, or why it is refused: a pass that writes nothing and assembles no words.
 ghost use mathlib.Core.Path.{_≡_};
 ghost use Prim.Native.Nat.{_≤_};
+ghost use lib.ListN.{length};
+ghost use Rattle.rows.specs.Table.{limit};
 ghost use Rattle.format.specs.Value.{document};
-ghost use Rattle.format.specs.Answer.{depthLimit};
-ghost use Rattle.measure.specs.Measured.{measuredOf};
+ghost use Rattle.format.specs.Answer.{depthLimit, needed};
+ghost use Rattle.measure.specs.Contracts.{measuredOf, told};
 
 mod key;
-mod measured;
+mod plain;
+pub mod told;
 mod value;
 
+pub use format::Needed;
 use format::Refusal;
-pub use measured::Measured;
+use rows::Row;
+use told::WRONG;
 pub use value::measure_value;
 
 // A whole document whose positions nest to `depth`.
-pub fn measure(s: &[u8], depth: usize) -> Measured
-    requires { ⌜ depth ≤ depthLimit ⌝ }
-    ensures { λ r. ⌜ r ≡ measuredOf (document depth (now (s .entry))) ⌝ }
+pub fn measure_document(s: &[u8], depth: usize) -> usize
+    requires { ⌜ (depth ≤ depthLimit) × (length (now s) ≤ limit) ⌝ }
+    ensures { λ r. ⌜ r ≡ told (measuredOf (document depth (now (s .entry)))) ⌝ }
 {
     let stop = s.len();
-    let m = measure_value(s, 0, stop, depth + 1, 0);
-    match m {
-        Measured::Right { rows, next } => {
-            if next == stop {
-                return Measured::Right { rows, next };
-            }
-            Measured::Wrong {
-                why: Refusal::Extra,
-                place: next,
-            }
-        }
-        Measured::Wrong { why, place } => Measured::Wrong { why, place },
+    let f = measure_value(s, 0, stop, depth + 1, 0);
+    if WRONG <= f {
+        return f;
     }
+    let next = told::place_in(f);
+    if next == stop {
+        return f;
+    }
+    told::wrong(Refusal::Extra, next)
+}
+
+// The same for a caller who is told by name.
+fn measure_within(data: &[u8], depth: usize) -> Needed
+    requires { ⌜ depth ≤ depthLimit ⌝ }
+    ensures { λ r. ⌜ r ≡ needed depth (now («data» .entry)) ⌝ }
+{
+    if Row::LIMIT < data.len() {
+        return Needed::TooLong;
+    }
+    let f = measure_document(data, depth);
+    if f < WRONG {
+        return Needed::Rows {
+            rows: told::row_in(f),
+        };
+    }
+    Needed::Refused {
+        why: told::why_in(f),
+        place: told::wrong_place(f),
+    }
+}
+
+// Measures a document: the rows that it needs, or what is wrong with it and where.
+pub fn measure(data: &[u8]) -> Needed
+    ensures { λ r. ⌜ r ≡ needed depthLimit (now («data» .entry)) ⌝ }
+{
+    measure_within(data, format::DEPTH_LIMIT)
 }

@@ -6,38 +6,39 @@ ghost use Rattle.rows.specs.Table.{limit};
 ghost use Rattle.rows.specs.Kinds.{holderOwn};
 ghost use Rattle.format.specs.declared.head.Children.the-variants.{Entries};
 ghost use Rattle.format.specs.Value.{kindOf, childCount, childrenOf, child, readings, holding, declaring, whole, inForeign, framed, value};
-ghost use Rattle.measure.specs.Measured.{measuredOf, measuredAll};
+ghost use Rattle.measure.specs.Contracts.{measuredOf, measuredAll, told};
 use crate::key::measure_key;
-use crate::measured::Measured;
+use crate::plain::end_child;
+use crate::told::WRONG;
+use crate::told::either;
+use crate::told::is_broken;
+use crate::told::place_in;
+use crate::told::right;
+use crate::told::row_in;
+use crate::told::wrong;
 use format::Children;
 use format::Head;
 use format::Holder;
 use format::Refusal;
 
 // One value position; `levels` are left, its own with them, and `around` entries are in force.
-pub fn measure_value(s: &[u8], at: usize, stop: usize, levels: usize, around: usize) -> Measured
-    requires { ⌜ stop ≤ length (now s) ⌝ }
-    ensures { λ r. ⌜ r ≡ measuredOf (value levels (now (s .entry)) around at stop) ⌝ }
+pub fn measure_value(s: &[u8], at: usize, stop: usize, levels: usize, around: usize) -> usize
+    requires { ⌜ (at ≤ stop) × (stop ≤ length (now s)) × (length (now s) ≤ limit) ⌝ }
+    ensures { λ r. ⌜ r ≡ told (measuredOf (value levels (now (s .entry)) around at stop)) ⌝ }
 {
     if levels == 0 {
-        return Measured::Wrong {
-            why: Refusal::Deep,
-            place: at,
-        };
+        return wrong(Refusal::Deep, at);
     }
     let h = heads::head_at(s, at, stop);
     match h {
-        Head::Leaf { content: _, next } => Measured::Right { rows: 1, next },
+        Head::Leaf { content: _, next } => right(1, next, false),
         Head::Refer { number, next } => {
             if number < around {
-                return Measured::Right { rows: 1, next };
+                return right(1, next, false);
             }
-            Measured::Wrong {
-                why: Refusal::NoEntry,
-                place: at,
-            }
+            wrong(Refusal::NoEntry, at)
         }
-        Head::Refuse { why, place } => Measured::Wrong { why, place },
+        Head::Refuse { why, place } => wrong(why, place),
         Head::Hold {
             holder,
             count,
@@ -57,65 +58,49 @@ fn measure_hold(
     around: usize,
     holder: Holder,
     count: usize,
-) -> Measured
-    requires { ⌜ (0 < at) × (at ≤ stop) × (stop ≤ length (now s)) × (count ≤ limit) ⌝ }
-    ensures { λ r. ⌜ r ≡ measuredOf (holding (holderOwn (kindOf holder) count) (readings (value levels (now (s .entry))) (childrenOf holder) (now (s .entry)) around 0 (childCount holder count) at stop)) ⌝ }
+) -> usize
+    requires { ⌜ (0 < at) × (at ≤ stop) × (stop ≤ length (now s)) × (length (now s) ≤ limit) × (count ≤ limit) ⌝ }
+    ensures { λ r. ⌜ r ≡ told (measuredOf (holding (holderOwn (kindOf holder) count) (readings (value levels (now (s .entry))) (childrenOf holder) (now (s .entry)) around 0 (childCount holder count) at stop))) ⌝ }
 {
     let n = holder.children(count);
-    let m = measure_children(s, at, stop, levels, around, holder.reading(), n);
-    match m {
-        Measured::Right { rows, next } => Measured::Right {
-            rows: 1 + rows,
-            next,
-        },
-        Measured::Wrong { why, place } => Measured::Wrong { why, place },
+    let f = measure_children(s, at, stop, levels, around, holder.reading(), n);
+    if WRONG <= f {
+        return f;
     }
+    right(1 + row_in(f), place_in(f), is_broken(f))
 }
 
 // A declaration's entries stand at `at`, and its value behind them.
-fn measure_declared(s: &[u8], at: usize, stop: usize, levels: usize, count: usize) -> Measured
-    requires { ⌜ (0 < at) × (at ≤ stop) × (stop ≤ length (now s)) ⌝ }
-    ensures { λ r. ⌜ r ≡ measuredOf (declaring count (readings (value levels (now (s .entry))) Entries (now (s .entry)) 0 0 count at stop) (value levels (now (s .entry))) stop) ⌝ }
+fn measure_declared(s: &[u8], at: usize, stop: usize, levels: usize, count: usize) -> usize
+    requires { ⌜ (0 < at) × (at ≤ stop) × (stop ≤ length (now s)) × (length (now s) ≤ limit) ⌝ }
+    ensures { λ r. ⌜ r ≡ told (measuredOf (declaring count (readings (value levels (now (s .entry))) Entries (now (s .entry)) 0 0 count at stop) (value levels (now (s .entry))) stop)) ⌝ }
 {
-    let m = measure_children(s, at, stop, levels, 0, Children::Entries, count);
-    match m {
-        Measured::Right { rows, next } => {
-            let v = measure_value(s, next, stop, levels, count);
-            match v {
-                Measured::Right {
-                    rows: more,
-                    next: end,
-                } => Measured::Right {
-                    rows: 1 + (rows + more),
-                    next: end,
-                },
-                Measured::Wrong { why, place } => Measured::Wrong { why, place },
-            }
-        }
-        Measured::Wrong { why, place } => Measured::Wrong { why, place },
+    let es = measure_children(s, at, stop, levels, 0, Children::Entries, count);
+    if WRONG <= es {
+        return es;
     }
+    let f = measure_value(s, place_in(es), stop, levels, count);
+    if WRONG <= f {
+        return f;
+    }
+    let broken = either(is_broken(es), is_broken(f));
+    right(1 + (row_in(es) + row_in(f)), place_in(f), broken)
 }
 
 // A foreign body of `size` bytes stands at `place`: right or damaged, it is read once.
-fn measure_framed(s: &[u8], place: usize, size: usize, levels: usize, around: usize) -> Measured
-    requires { ⌜ (0 < place) × (place + size ≤ length (now s)) ⌝ }
-    ensures { λ r. ⌜ r ≡ measuredOf (framed place size (whole (place + size) (value levels (now (s .entry)) (inForeign around) place (place + size)))) ⌝ }
+fn measure_framed(s: &[u8], place: usize, size: usize, levels: usize, around: usize) -> usize
+    requires { ⌜ (0 < place) × (place + size ≤ length (now s)) × (length (now s) ≤ limit) ⌝ }
+    ensures { λ r. ⌜ r ≡ told (measuredOf (framed place size (whole (place + size) (value levels (now (s .entry)) (inForeign around) place (place + size))))) ⌝ }
 {
     let end = place + size;
-    let inside = format::in_foreign(around);
-    let m = measure_value(s, place, end, levels, inside);
-    match m {
-        Measured::Right { rows, next } => {
-            if next == end {
-                return Measured::Right {
-                    rows: 1 + rows,
-                    next: end,
-                };
-            }
-            Measured::Right { rows: 1, next: end }
-        }
-        Measured::Wrong { why: _, place: _ } => Measured::Right { rows: 1, next: end },
+    let f = measure_value(s, place, end, levels, format::in_foreign(around));
+    if WRONG <= f {
+        return right(1, end, true);
     }
+    if place_in(f) == end {
+        return right(1 + row_in(f), end, is_broken(f));
+    }
+    right(1, end, true)
 }
 
 // Child number i of a holder.
@@ -127,9 +112,9 @@ fn measure_child(
     around: usize,
     children: Children,
     i: usize,
-) -> Measured
-    requires { ⌜ (at ≤ stop) × (stop ≤ length (now s)) ⌝ }
-    ensures { λ r. ⌜ r ≡ measuredOf (child children (value levels (now (s .entry))) (now (s .entry)) around i at stop) ⌝ }
+) -> usize
+    requires { ⌜ (at ≤ stop) × (stop ≤ length (now s)) × (length (now s) ≤ limit) ⌝ }
+    ensures { λ r. ⌜ r ≡ told (measuredOf (child children (value levels (now (s .entry))) (now (s .entry)) around i at stop)) ⌝ }
 {
     if children.is_key(i) {
         return measure_key(s, at, stop);
@@ -146,25 +131,30 @@ fn measure_children(
     around: usize,
     children: Children,
     count: usize,
-) -> Measured
-    requires { ⌜ (at ≤ stop) × (stop ≤ length (now s)) ⌝ }
-    ensures { λ r. ⌜ r ≡ measuredAll (readings (value levels (now (s .entry))) children (now (s .entry)) around 0 count at stop) ⌝ }
+) -> usize
+    requires { ⌜ (at ≤ stop) × (stop ≤ length (now s)) × (length (now s) ≤ limit) ⌝ }
+    ensures { λ r. ⌜ r ≡ told (measuredAll (readings (value levels (now (s .entry))) children (now (s .entry)) around 0 count at stop)) ⌝ }
 {
     let mut i = 0;
     let mut rows = 0;
     let mut place = at;
+    let mut broken = false;
     while i < count {
-        let m = measure_child(s, place, stop, levels, around, children, i);
-        match m {
-            Measured::Right { rows: more, next } => {
-                rows = rows + more;
-                place = next;
-                i = i + 1;
+        let next = end_child(s, place, stop, levels, around, children, i);
+        if next == 0 {
+            let f = measure_child(s, place, stop, levels, around, children, i);
+            if WRONG <= f {
+                return f;
             }
-            Measured::Wrong { why, place: found } => {
-                return Measured::Wrong { why, place: found };
-            }
+            rows = rows + row_in(f);
+            place = place_in(f);
+            broken = either(broken, is_broken(f));
+            i = i + 1;
+            continue;
         }
+        rows = rows + 1;
+        place = next;
+        i = i + 1;
     }
-    Measured::Right { rows, next: place }
+    right(rows, place, broken)
 }

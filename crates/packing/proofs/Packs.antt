@@ -7,7 +7,8 @@ use Rattle.variable.specs.declared.answer.Written.{Written as Coded}
 use Rattle.variable.specs.Answer.{codedNumber, codedBeside}
 use Rattle.rows.specs.Table.{limit}
 use Rattle.format.specs.declared.answer.Answer.{Answer}
-use Rattle.format.specs.Answer.{answerNumber, answerBeside}
+use Rattle.format.specs.declared.needed.Needed.{Needed}
+use Rattle.format.specs.Answer.{answerNumber, answerBeside, neededNumber, neededBeside}
 use Rattle.checker.specs.declared.checked.Checked.{Checked}
 use Rattle.checker.specs.Checked.{checkedNumber, checkedBeside}
 use Rattle.writer.specs.declared.written.Written.{Written}
@@ -18,7 +19,7 @@ use Rattle.walker.specs.declared.step.Step.the-variants.{BadTable}
 use Rattle.resolve.specs.declared.resolved.Resolved.{Resolved}
 use Rattle.resolve.specs.declared.resolved.Resolved.the-variants as resolved
 use Rattle.walker.specs.Walk.{stepNumber, stepStanding}
-use Rattle.packing.specs.Packed.{packed, packedAnswer, packedChecked, packedWritten, packedCoded, packedStanding, packedStep, within}
+use Rattle.packing.specs.Packed.{packed, packedNeeded, packedAnswer, packedChecked, packedWritten, packedCoded, packedStanding, packedStep, within}
 
 -- ---- no bit is lost
 
@@ -51,6 +52,10 @@ unfolding packed
 pack-is number beside = omega arith
 
 -- ---- answers
+
+pub needed-packed : (a : Needed) (n b r : ℕ) → n ≡ neededNumber a → b ≡ neededBeside a → r ≡ packed n b → r ≡ packedNeeded a
+unfolding packedNeeded
+needed-packed a n b r f g h = cc
 
 pub answer-packed : (a : Answer) (n b r : ℕ) → n ≡ answerNumber a → b ≡ answerBeside a → r ≡ packed n b → r ≡ packedAnswer a
 unfolding packedAnswer

@@ -5,13 +5,17 @@ use Prim.Native.Nat.{ℕ}
 use Rattle.variable.specs.declared.answer.Read.{Read}
 use Rattle.variable.specs.declared.answer.Written.{Written as Coded}
 use Rattle.format.specs.declared.answer.Answer.{Answer}
+use Rattle.format.specs.declared.needed.Needed.{Needed}
 use Rattle.checker.specs.declared.checked.Checked.{Checked}
 use Rattle.writer.specs.declared.written.Written.{Written}
 use Rattle.walker.specs.declared.step.Step.{Step}
 use Rattle.walker.specs.declared.step.Step.the-variants.{BadTable}
 use Rattle.resolve.specs.declared.resolved.Resolved.{Resolved}
 use Rattle.payload.specs.declared.part.Part.{Part}
-use Rattle.packing.specs.Packed.{packedAnswer, packedChecked, packedWritten, packedCoded, packedStep, within, listAfter, resolvedWords, packedResolved, partWords, packedPart, readWords, packedRead}
+use Rattle.packing.specs.Packed.{packedNeeded, packedAnswer, packedChecked, packedWritten, packedCoded, packedStep, within, listAfter, resolvedWords, packedResolved, partWords, packedPart, readWords, packedRead}
+
+pub needed-same : (a x : Needed) (r : ℕ) → a ≡ x → r ≡ packedNeeded a → r ≡ packedNeeded x
+needed-same a x r e f = cc
 
 pub answer-same : (a x : Answer) (r : ℕ) → a ≡ x → r ≡ packedAnswer a → r ≡ packedAnswer x
 answer-same a x r e f = cc

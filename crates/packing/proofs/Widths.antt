@@ -12,7 +12,9 @@ use Rattle.variable.specs.Answer.{readNumber, codedNumber}
 use Rattle.rows.specs.Table.{limit}
 use Rattle.format.specs.declared.answer.Answer.{Answer}
 use Rattle.format.specs.declared.answer.Answer.the-variants.{Accepted, TooLong, Refused, Full}
-use Rattle.format.specs.Answer.{answerNumber}
+use Rattle.format.specs.declared.needed.Needed.{Needed}
+use Rattle.format.specs.declared.needed.Needed.the-variants as needs
+use Rattle.format.specs.Answer.{answerNumber, neededNumber}
 use Rattle.format.proofs.Values.{verdict-high}
 use Rattle.checker.specs.declared.checked.Checked.{Checked}
 use Rattle.checker.specs.declared.checked.Checked.the-variants as checks
@@ -32,6 +34,11 @@ use Rattle.packing.specs.Packed.{packedStanding}
 use Rattle.packing.specs.Contracts.{LowStep, SmallResolved, SmallPart}
 
 -- ---- the numbers of the paper
+
+pub needed-number : (a : Needed) (n : ℕ) → n ≡ neededNumber a → n < 2 ^ 8
+needed-number (needs.Rows rows) n e = omega arith
+needed-number needs.TooLong n e = omega arith
+needed-number (needs.Refused why place) n e = omega (arith, verdict-high why)
 
 pub answer-number : (a : Answer) (n : ℕ) → n ≡ answerNumber a → n < 2 ^ 8
 answer-number (Accepted rows) n e = omega arith

@@ -10,7 +10,8 @@ use Rattle.variable.specs.declared.answer.Written.{Written as Coded}
 use Rattle.variable.specs.Answer.{readNumber, readValue, readUsed, codedNumber, codedBeside}
 use Rattle.rows.specs.Table.{limit}
 use Rattle.format.specs.declared.answer.Answer.{Answer}
-use Rattle.format.specs.Answer.{answerNumber, answerBeside}
+use Rattle.format.specs.declared.needed.Needed.{Needed}
+use Rattle.format.specs.Answer.{answerNumber, answerBeside, neededNumber, neededBeside}
 use Rattle.checker.specs.declared.checked.Checked.{Checked}
 use Rattle.checker.specs.Checked.{checkedNumber, checkedBeside}
 use Rattle.writer.specs.declared.written.Written.{Written}
@@ -26,7 +27,10 @@ use Rattle.resolve.specs.Resolve.{resolvedNumber, resolvedRow, resolvedBound, r
 unfoldable pub packed : ℕ → ℕ → ℕ
 packed number beside = beside + 2 ^ 56 * number
 
--- the reader, the check, the writer, and writing a variable integer: the paper's number for each answer, and the number beside it
+-- measuring, filling, the check, the writer, and writing a variable integer: the paper's number for each answer, and the number beside it
+unfoldable pub packedNeeded : Needed → ℕ
+packedNeeded a = packed (neededNumber a) (neededBeside a)
+
 unfoldable pub packedAnswer : Answer → ℕ
 packedAnswer a = packed (answerNumber a) (answerBeside a)
 

@@ -5,15 +5,23 @@ ghost use mathlib.Core.Path.{_≡_};
 ghost use Prim.Native.Nat.{_^_, _≤_, _<_};
 ghost use Rattle.variable.specs.Answer.{readUsed, codedBeside};
 ghost use Rattle.rows.specs.Table.{limit};
-ghost use Rattle.format.specs.Answer.{answerBeside};
+ghost use Rattle.format.specs.Answer.{answerBeside, neededBeside};
 ghost use Rattle.checker.specs.Checked.{checkedBeside};
 ghost use Rattle.writer.specs.Written.{writtenBeside};
-ghost use Rattle.packing.specs.Packed.{packedAnswer, packedChecked, packedWritten, packedCoded, packedStep, within, listAfter, resolvedWords, packedResolved, partWords, packedPart, readWords, packedRead};
+ghost use Rattle.packing.specs.Packed.{packedNeeded, packedAnswer, packedChecked, packedWritten, packedCoded, packedStep, within, listAfter, resolvedWords, packedResolved, partWords, packedPart, readWords, packedRead};
 ghost use Rattle.packing.specs.Contracts.{LowStep, SmallResolved, SmallPart};
 use rows::Row;
 use walker::Step;
 
-// What the reader answered.
+// What measuring answered.
+pub fn needed(a: format::Needed) -> u64
+    requires { ⌜ neededBeside a < 2 ^ 56 ⌝ }
+    ensures { λ r. ⌜ r ≡ packedNeeded a ⌝ }
+{
+    pack::pack(a.number(), a.beside() as u64)
+}
+
+// What filling answered.
 pub fn answer(a: format::Answer) -> u64
     requires { ⌜ answerBeside a < 2 ^ 56 ⌝ }
     ensures { λ r. ⌜ r ≡ packedAnswer a ⌝ }

@@ -5,26 +5,34 @@ ghost use Rattle.wide.specs.Words.{valueOf, words};
 ghost use Rattle.wide.specs.Family.{form};
 ghost use Rattle.wide.specs.Members.{signed, unsigned};
 ghost use Rattle.variable.specs.Answer.{readOf, writtenOf, outputOf};
-ghost use Rattle.format.specs.Answer.{depthLimit, answer, tableAfter};
+ghost use Rattle.format.specs.Answer.{depthLimit, needed, answer, tableAfter};
 ghost use Rattle.checker.specs.Checked.{checked};
 ghost use Rattle.writer.specs.Written.{written, outputAfter};
 ghost use Rattle.walker.specs.Walk.{standing, stepIn, stepOn, stepAlong};
 ghost use Rattle.resolve.specs.Resolve.{resolve};
 ghost use Rattle.payload.specs.Payload.{payloadAt};
-ghost use Rattle.packing.specs.Packed.{packedAnswer, packedChecked, packedWritten, packedCoded, packedStep, within, listAfter, resolvedWords, packedResolved, partWords, packedPart, readWords, packedRead};
+ghost use Rattle.packing.specs.Packed.{packedNeeded, packedAnswer, packedChecked, packedWritten, packedCoded, packedStep, within, listAfter, resolvedWords, packedResolved, partWords, packedPart, readWords, packedRead};
 use resolve::Resolved;
 use rows::Row;
 use walker::Standing;
 use walker::Step;
 use wide::Wide;
 
-// Reads a document into a table.
+// How many rows a document needs.
 #[no_mangle]
-pub extern "C" fn panxidell_read(data: &[u8], table: &mut [u32]) -> u64
+pub extern "C" fn panxidell_measure(data: &[u8]) -> u64
+    ensures { λ r. ⌜ r ≡ packedNeeded (needed depthLimit (now («data» .entry))) ⌝ }
+{
+    packing::needed(measure::measure(data))
+}
+
+// Fills a table from a document.
+#[no_mangle]
+pub extern "C" fn panxidell_fill(data: &[u8], table: &mut [u32]) -> u64
     ensures { λ r. ⌜ r ≡ packedAnswer (answer depthLimit (now («data» .entry)) (now (table .entry))) ⌝ }
     ensures { λ _. ⌜ now (table .exit) ≡ tableAfter depthLimit (now («data» .entry)) (now (table .entry)) ⌝ }
 {
-    packing::answer(reader::read(data, table))
+    packing::answer(reader::fill(data, table))
 }
 
 // Whether the first n rows obey the row rules.

@@ -1,55 +1,67 @@
-// Reads a document into a lent table.
+// Fills a lent table from a document: the document is measured whole first, so that no row is laid on hope.
 ghost use mathlib.Core.Path.{_≡_};
+ghost use mathlib.Core.List.{[]};
 ghost use Prim.Native.Nat.{_≤_};
 ghost use lib.ListN.{length};
+ghost use lib.Seq.{sets};
+ghost use Rattle.lists.specs.Zeroed.{zeroed};
 ghost use Rattle.rows.specs.Table.{limit};
 ghost use Rattle.format.specs.Value.{document};
+ghost use Rattle.format.specs.Layout.{layout};
 ghost use Rattle.format.specs.Answer.{depthLimit, answer, tableAfter};
-ghost use Rattle.reader.specs.Contracts.{Whole, notRead};
-
-mod fill;
-mod filled;
-mod one;
-
+ghost use Rattle.measure.specs.Contracts.{measuredOf, told};
+ghost use Rattle.laying.specs.Contracts.{Ready, treeRead};
 pub use format::Answer;
-use measure::Measured;
+use measure::told;
 use rows::Row;
 
-// Why a document was not read: what is wrong, or that it needs more rows than lent.
-fn why_not(data: &[u8], depth: usize) -> Answer
-    requires { ⌜ depth ≤ depthLimit ⌝ }
-    ensures { λ r. ⌜ r ≡ notRead (document depth (now («data» .entry))) ⌝ }
-{
-    let m = measure::measure(data, depth);
-    match m {
-        Measured::Right {
-            rows: needed,
-            next: _,
-        } => Answer::Full { needed },
-        Measured::Wrong { why, place } => Answer::Refused { why, place },
-    }
-}
-
-// Fills a table from a document, with zeros behind its rows: how many they are, or 0 where the document is wrong or needs more than lent.
-fn fill_document(data: &[u8], table: &mut [u32], depth: usize) -> usize
+// The rows of a document that is right, where they are lent, and zeros behind them.
+fn lay_document(data: &[u8], table: &mut [u32], depth: usize, doubt: bool)
+    requires { ⌜ Ready (document depth (now «data»)) doubt (now table) 0 0 0 ⌝ }
     requires { ⌜ (depth ≤ depthLimit) × (length (now «data») ≤ limit) ⌝ }
-    ensures { λ r. ⌜ Whole (document depth (now («data» .entry))) (now (table .entry)) (now (table .exit)) r ⌝ }
+    ensures { λ _. ⌜ now (table .exit) ≡ sets (zeroed 0 (now (table .entry))) 0 (layout (treeRead (document depth (now («data» .entry)))) 0 []) ⌝ }
 {
     let stop = data.len();
-    let f = fill::fill_value(table, data, 0, stop, depth + 1, 0, 0, 0);
-    if f == 0 {
-        return 0;
-    }
-    if filled::place_in(f) != stop {
-        return 0;
-    }
-    let used = filled::row_in(f);
+    let f = laying::lay_value(table, data, 0, stop, depth + 1, 0, 0, 0, doubt);
+    let used = told::row_in(f);
     rows::zero_from(table, Row::WORDS * used);
-    used
 }
 
-// Reads a document whose positions nest to `depth`: in one pass, and one more where it is refused, to say why.
-fn read_within(data: &[u8], table: &mut [u32], depth: usize) -> Answer
+// By what was measured: zeros, or the rows.
+fn fill_measured(data: &[u8], table: &mut [u32], depth: usize, measured: usize) -> Answer
+    requires { ⌜ measured ≡ told (measuredOf (document depth (now «data»))) ⌝ }
+    requires { ⌜ (depth ≤ depthLimit) × (length (now «data») ≤ limit) ⌝ }
+    ensures { λ r. ⌜ r ≡ answer depth (now («data» .entry)) (now (table .entry)) ⌝ }
+    ensures { λ _. ⌜ now (table .exit) ≡ tableAfter depth (now («data» .entry)) (now (table .entry)) ⌝ }
+{
+    if told::WRONG <= measured {
+        rows::zero_from(table, 0);
+        return Answer::Refused {
+            why: told::why_in(measured),
+            place: told::wrong_place(measured),
+        };
+    }
+    let needed = told::row_in(measured);
+    if rows::lent(table) < needed {
+        rows::zero_from(table, 0);
+        return Answer::Full { needed };
+    }
+    lay_document(data, table, depth, told::is_broken(measured));
+    Answer::Accepted { rows: needed }
+}
+
+// The whole document is measured before a row is laid.
+fn measure_and_fill(data: &[u8], table: &mut [u32], depth: usize) -> Answer
+    requires { ⌜ (depth ≤ depthLimit) × (length (now «data») ≤ limit) ⌝ }
+    ensures { λ r. ⌜ r ≡ answer depth (now («data» .entry)) (now (table .entry)) ⌝ }
+    ensures { λ _. ⌜ now (table .exit) ≡ tableAfter depth (now («data» .entry)) (now (table .entry)) ⌝ }
+{
+    let measured = measure::measure_document(data, depth);
+    fill_measured(data, table, depth, measured)
+}
+
+// Fills from a document whose positions nest to `depth`.
+fn fill_within(data: &[u8], table: &mut [u32], depth: usize) -> Answer
     requires { ⌜ depth ≤ depthLimit ⌝ }
     ensures { λ r. ⌜ r ≡ answer depth (now («data» .entry)) (now (table .entry)) ⌝ }
     ensures { λ _. ⌜ now (table .exit) ≡ tableAfter depth (now («data» .entry)) (now (table .entry)) ⌝ }
@@ -58,18 +70,13 @@ fn read_within(data: &[u8], table: &mut [u32], depth: usize) -> Answer
         rows::zero_from(table, 0);
         return Answer::TooLong;
     }
-    let used = fill_document(data, table, depth);
-    if used == 0 {
-        rows::zero_from(table, 0);
-        return why_not(data, depth);
-    }
-    Answer::Accepted { rows: used }
+    measure_and_fill(data, table, depth)
 }
 
-// Reads a document into a table: the answer, and under every refusal a table of zeros.
-pub fn read(data: &[u8], table: &mut [u32]) -> Answer
+// Fills a table from a document: the answer, and under every refusal a table of zeros.
+pub fn fill(data: &[u8], table: &mut [u32]) -> Answer
     ensures { λ r. ⌜ r ≡ answer depthLimit (now («data» .entry)) (now (table .entry)) ⌝ }
     ensures { λ _. ⌜ now (table .exit) ≡ tableAfter depthLimit (now («data» .entry)) (now (table .entry)) ⌝ }
 {
-    read_within(data, table, format::DEPTH_LIMIT)
+    fill_within(data, table, format::DEPTH_LIMIT)
 }

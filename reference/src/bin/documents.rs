@@ -407,7 +407,6 @@ fn random_documents() -> Documents {
 }
 
 #[cfg(test)]
-#[allow(dead_code)]
 #[path = "../../tests/naive/mod.rs"]
 mod naive;
 
@@ -418,7 +417,7 @@ mod tests {
     #[test]
     fn listings_agree_with_the_plainest_reader() {
         for document in documents() {
-            let expected = match naive::read(&document) {
+            let expected = match naive::rows(&document) {
                 Ok(rows) if rows.len() > 1_024 => format!("refused 11 {}\n", rows.len()),
                 Ok(rows) => {
                     let lines = rows.iter().map(|row| row.map(|word| word.to_string()).join(" ") + "\n");

@@ -1,14 +1,37 @@
 //! The paper's rules in the plainest words: one pass, rows in a list, taken back when a body is damaged.
 
+// each file of tests has its own use of it
+#![allow(dead_code)]
+
 use reference::rows::Row;
 
 type Place = usize;
 
-/// The rows of a document, or the refusal's number and place. It knows neither 1 nor 11.
-pub fn read(document: &[u8]) -> Result<Vec<Row>, (u32, Place)> {
+/// The rows of a document, or the refusal's number and place.
+pub fn rows(document: &[u8]) -> Result<Vec<Row>, (u32, Place)> {
+    if document.len() > 16_777_215 {
+        return Err((1, 0));
+    }
     let mut rows = Vec::new();
     whole(document, 0, 0, &[], &mut rows)?;
     Ok(rows)
+}
+
+/// How many rows a document needs, or the refusal's number and place.
+pub fn measure(document: &[u8]) -> Result<usize, (u32, Place)> {
+    rows(document).map(|rows| rows.len())
+}
+
+/// The rows used of a table of so many words, or the refusal's number and what stands beside it; and the table.
+pub fn fill(document: &[u8], words: usize) -> (Result<usize, (u32, usize)>, Vec<u32>) {
+    let fitting = match rows(document) {
+        Ok(rows) if 6 * rows.len() > words => Err((11, rows.len())),
+        answer => answer,
+    };
+    let answer = fitting.as_ref().map(Vec::len).map_err(|refusal| *refusal);
+    let mut table = fitting.unwrap_or_default().concat();
+    table.resize(words, 0);
+    (answer, table)
 }
 
 fn whole(data: &[u8], at: Place, depth: u32, entries: &[usize], rows: &mut Vec<Row>) -> Result<(), (u32, Place)> {
@@ -171,7 +194,7 @@ fn front(data: &[u8], at: Place, entries: &[usize]) -> Result<(Row, Place, Insid
 pub fn check(rows: &[Row], data: &[u8]) -> bool {
     let mut document = Vec::new();
     let Some(_) = put(rows, 0, 0, data, &mut document) else { return false };
-    let Ok(read) = self::read(&document) else { return false };
+    let Ok(read) = self::rows(&document) else { return false };
     let payload = |row: &Row, data: &[u8]| body(row).map(|(place, size)| data[place..place + size].to_vec());
     let words = |row: &Row| match body(row) {
         Some(_) => [row[0], row[1], 0, row[3], row[4], row[5]],

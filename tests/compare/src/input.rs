@@ -18,17 +18,21 @@ pub fn run(compare: &mut Compare, bytes: &[u8]) {
     }
 }
 
-/// A document with no rows lent, with one word too few, and with rows enough.
+/// A document, measured, and filled in with no words lent, with five, with a row and with a word too few, and with rows
+/// enough.
 fn document(compare: &mut Compare, data: &[u8]) -> Option<Vec<u32>> {
-    let (answer, _) = compare.read(data, 0);
-    if number(answer) != 11 {
-        compare.read(data, 13);
+    let measured = compare.measure(data);
+    compare.fill(data, measured, 0);
+    compare.fill(data, measured, 5);
+    if number(measured) != 0 {
+        compare.fill(data, measured, 13);
         return None;
     }
-    let rows = beside(answer) as usize;
-    compare.read(data, 6 * rows - 1);
-    compare.read(data, 6 * rows + 7);
-    let (_, table) = compare.read(data, 6 * rows);
+    let rows = beside(measured) as usize;
+    compare.fill(data, measured, 6 * rows - 6);
+    compare.fill(data, measured, 6 * rows - 1);
+    compare.fill(data, measured, 6 * rows + 7);
+    let (_, table) = compare.fill(data, measured, 6 * rows);
     operations(compare, &table, rows, data);
     Some(table)
 }

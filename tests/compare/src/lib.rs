@@ -1,15 +1,16 @@
 //! Every operation of the proved library beside the same one of the reference implementation. What is lent to be
-//! written stands between guards, is filled with a pattern beforehand, and is compared whole afterwards. A difference
-//! is printed with all that the call was given, and stops the program.
+//! written stands between guards, is filled with a pattern beforehand, and is compared whole afterwards. What fill
+//! answers is also compared with what measure answered. A difference is printed with all that the call was given, and
+//! stops the program.
 
 pub mod input;
 mod report;
 
-use native::packed;
+use native::{beside, number, packed};
 use reference::refusal::{Fault, Refusal};
 use reference::varint::{self, Words};
 use reference::walk::{self, Standing};
-use reference::{check, read, write, LIMIT};
+use reference::{check, fill, measure, write, LIMIT};
 pub use report::Tally;
 use report::{Call, Lent};
 
@@ -36,17 +37,31 @@ pub struct Compare {
 }
 
 impl Compare {
-    /// Reads the data into a table of so many words; the answer and the table.
-    pub fn read(&mut self, data: &[u8], words: usize) -> (u64, Vec<u32>) {
+    /// Measures the data.
+    pub fn measure(&mut self, data: &[u8]) -> u64 {
+        let answer = native::measure(data);
+        let expected = packed_count(measure::measure(data));
+        self.same::<u8>(
+            &Call { what: "measure", data, table: &[], arguments: format_args!("") },
+            (answer, expected),
+            (&[], &[]),
+        );
+        answer
+    }
+
+    /// Fills a table of so many words with the data, which were measured before; the answer and the table.
+    pub fn fill(&mut self, data: &[u8], measured: u64, words: usize) -> (u64, Vec<u32>) {
         let mut ours = Lent::numbers(words);
         let mut theirs = ours.clone();
-        let answer = native::read(data, ours.part());
-        let expected = packed_count(read::read(data, theirs.part()));
-        self.same(
-            &Call { what: "read", data, table: &[], arguments: format_args!("words={words}") },
-            (answer, expected),
-            (&ours.all, &theirs.all),
-        );
+        let answer = native::fill(data, ours.part());
+        let expected = packed_count(fill::fill(data, theirs.part()));
+        let call = Call { what: "fill", data, table: &[], arguments: format_args!("words={words}") };
+        self.same(&call, (answer, expected), (&ours.all, &theirs.all));
+        let rows = beside(measured);
+        let fitting = if number(measured) == 0 && rows > words as u64 / 6 { packed(11, rows) } else { measured };
+        if answer != fitting {
+            report::differ::<u8>(&call, &self.origin, [("fill", answer), ("as measured", fitting)], (&[], &[]));
+        }
         (answer, ours.part().to_vec())
     }
 
@@ -191,9 +206,9 @@ impl Compare {
     #[inline]
     fn same<T: PartialEq + std::fmt::LowerHex>(&mut self, call: &Call, answers: (u64, u64), lent: (&[T], &[T])) {
         if answers.0 != answers.1 || lent.0 != lent.1 {
-            report::differ(call, &self.origin, answers, lent);
+            report::differ(call, &self.origin, [("library", answers.0), ("reference", answers.1)], lent);
         }
-        self.tally.count(call.what, native::number(answers.0));
+        self.tally.count(call.what, number(answers.0));
     }
 }
 

@@ -40,20 +40,20 @@ pub struct Call<'a> {
 /// Longer lists are printed in part.
 const MOST: usize = 65_536;
 
-/// Prints a difference and stops.
+/// Prints two answers, each with who gave it, and what was lent to both, and stops.
 #[cold]
-pub fn differ<T: PartialEq + LowerHex>(call: &Call, origin: &str, answers: (u64, u64), lent: (&[T], &[T])) -> ! {
-    let said = |answer: u64| format!("{} {}", native::number(answer), native::beside(answer));
+pub fn differ<T: PartialEq + LowerHex>(call: &Call, origin: &str, answers: [(&str, u64); 2], lent: (&[T], &[T])) -> ! {
     eprintln!("DIFFERENCE in {} {} ({origin})", call.what, call.arguments);
-    eprintln!("  library:   {}", said(answers.0));
-    eprintln!("  reference: {}", said(answers.1));
+    for (who, answer) in answers {
+        eprintln!("  {:12} {} {}", format!("{who}:"), native::number(answer), native::beside(answer));
+    }
     if let Some(at) = lent.0.iter().zip(lent.1).position(|(ours, theirs)| ours != theirs) {
         let place = at as isize - GUARD as isize;
         eprintln!("  what was lent differs first at {place}: {:x}, reference {:x}", lent.0[at], lent.1[at]);
     }
     eprintln!("  data, {} bytes: {}", call.data.len(), hex(call.data, ""));
     eprintln!("  table, {} words: {}", call.table.len(), hex(call.table, " "));
-    panic!("the library and the reference differ");
+    panic!("two answers differ");
 }
 
 fn hex<T: LowerHex>(numbers: &[T], between: &str) -> String {

@@ -3,7 +3,7 @@
 use crate::documents::document;
 use crate::tables::{change, made, Table};
 use compare::{Compare, Tally, Way};
-use native::{beside, number};
+use native::{beside, number, packed};
 use reference::generate::Random;
 use reference::varint::words;
 use reference::LIMIT;
@@ -18,14 +18,19 @@ pub fn case(compare: &mut Compare, seed: u64, case: u64) {
     }
 }
 
-/// Every document of up to so many bytes, read with rows enough.
+/// Every document of up to so many bytes, measured, and filled in with rows enough.
 pub fn short(size: u32) -> Tally {
     let mut compare = Compare { origin: "every short document".to_string(), ..Compare::default() };
-    compare.read(&[], 6);
+    let measured = compare.measure(&[]);
+    assert_eq!(measured, packed(2, 0));
+    for words in [0, 5, 6] {
+        compare.fill(&[], measured, words);
+    }
     for size in 1..=size {
         for bytes in 0..1u32 << (8 * size) {
             let document = &bytes.to_le_bytes()[..size as usize];
-            compare.read(document, 6 * size as usize);
+            let measured = compare.measure(document);
+            compare.fill(document, measured, 6 * size as usize);
         }
     }
     println!("all documents of up to {size} bytes");
@@ -34,24 +39,24 @@ pub fn short(size: u32) -> Tally {
 
 fn a_document(compare: &mut Compare, random: &mut Random) {
     let data = document(random);
-    let (answer, _) = compare.read(&data, 0);
-    if number(answer) != 11 {
-        for words in [1, 5, 6, 12, 6 * random.below(20) + random.below(6)] {
-            compare.read(&data, words);
+    let measured = compare.measure(&data);
+    if number(measured) != 0 {
+        for words in [0, 1, 5, 6, 12, 6 * random.below(20) + random.below(6)] {
+            compare.fill(&data, measured, words);
         }
         return;
     }
-    let needed = beside(answer) as usize;
+    let needed = beside(measured) as usize;
     let exact = 6 * needed;
-    for words in [5, 6, exact - 6, exact - 1, exact + 1, exact + 5, exact + 6, exact + random.below(40)] {
-        compare.read(&data, words);
+    for words in [0, 5, 6, exact - 6, exact - 1, exact + 1, exact + 5, exact + 6, exact + random.below(40)] {
+        compare.fill(&data, measured, words);
     }
     for words in [random.below(exact), random.below(exact)] {
-        compare.read(&data, words);
+        compare.fill(&data, measured, words);
     }
-    let (_, words) = compare.read(&data, exact);
+    let (_, words) = compare.fill(&data, measured, exact);
     let table = Table { words, n: needed, data };
-    assert_eq!(number(compare.check(&table.words, needed, &table.data)), 0, "what is read passes the check");
+    assert_eq!(number(compare.check(&table.words, needed, &table.data)), 0, "what is filled passes the check");
     operations(compare, &table, random);
     for _ in 0..3 {
         let mut table = table.clone();
@@ -88,8 +93,9 @@ fn operations(compare: &mut Compare, table: &Table, random: &mut Random) {
         }
         let (_, out) = compare.write(words, n, data, needed);
         // written shortest: read and written again they are the same bytes
-        let (again, table) = compare.read(&out, 6 * n);
-        assert_eq!((number(again), beside(again)), (0, n as u64), "what is written reads back");
+        let measured = compare.measure(&out);
+        assert_eq!(measured, packed(0, n as u64), "what is written reads back");
+        let (_, table) = compare.fill(&out, measured, 6 * n);
         assert!(compare.write(&table, n, &out, needed).1 == out, "what is read back is written again");
     } else {
         compare.write(words, n, data, data.len() + 40);

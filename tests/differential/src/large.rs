@@ -31,18 +31,29 @@ fn binary(size: usize) -> Vec<u8> {
 
 fn too_long(compare: &mut Compare) {
     let data = binary(MOST);
-    let (answer, table) = compare.read(&data, 13);
+    let measured = compare.measure(&data);
+    assert_eq!(measured, packed(0, 1));
+    let (answer, table) = compare.fill(&data, measured, 13);
     assert_eq!(answer, packed(0, 1));
+    assert_eq!(compare.fill(&data, measured, 0).0, packed(11, 1));
+    assert_eq!(compare.fill(&data, measured, 5).0, packed(11, 1));
     assert_eq!(compare.check(&table, 1, &data), packed(0, 1));
     assert_eq!(compare.write(&table, 1, &data, MOST - 1).0, packed(13, MOST as u64));
     assert_eq!(compare.write(&table, 1, &data, MOST).0, packed(0, MOST as u64));
     let more = binary(MOST + 1);
-    assert_eq!(compare.read(&more, 13).0, packed(1, 0));
+    // above the limit nothing else is asked
+    for data in [&more, &vec![0x0e; MOST + 1]] {
+        let measured = compare.measure(data);
+        assert_eq!(measured, packed(1, 0));
+        for words in [0, 5, 6, 13] {
+            assert_eq!(compare.fill(data, measured, words), (packed(1, 0), vec![0; words]));
+        }
+    }
     assert_eq!(compare.check(&table, 1, &more), packed(12, 0));
     assert_eq!(compare.write(&table, 1, &more, 20).0, packed(12, 0));
-    // above the limit nothing else is asked
-    assert_eq!(compare.read(&vec![0x0e; MOST + 1], 6).0, packed(1, 0));
-    assert_eq!(compare.read(&vec![0x0e; MOST], 6).0, packed(3, 0));
+    let wrong = vec![0x0e; MOST];
+    let measured = compare.measure(&wrong);
+    assert_eq!(compare.fill(&wrong, measured, 6).0, packed(3, 0));
 }
 
 /// An array of rows that all point at the same bytes.
@@ -98,15 +109,21 @@ fn many_rows(compare: &mut Compare) {
     let mut data = vec![0x02; MOST];
     data[..5].copy_from_slice(&[0x09, 0xfa, 0xfa, 0xff, 0xff]);
     let rows = MOST - 4;
-    assert_eq!(compare.read(&data, 6 * rows - 1).0, packed(11, rows as u64));
-    let (answer, table) = compare.read(&data, 6 * rows + 7);
+    let measured = compare.measure(&data);
+    assert_eq!(measured, packed(0, rows as u64));
+    for words in [6 * rows - 6, 6 * rows - 1] {
+        assert_eq!(compare.fill(&data, measured, words).0, packed(11, rows as u64));
+    }
+    assert_eq!(compare.fill(&data, measured, 6 * rows).0, packed(0, rows as u64));
+    let (answer, table) = compare.fill(&data, measured, 6 * rows + 7);
     assert_eq!(answer, packed(0, rows as u64));
     assert_eq!(compare.check(&table, rows, &data), packed(0, rows as u64));
     assert_eq!(compare.check(&table, rows + 1, &data), packed(12, 0));
     assert_eq!(compare.write(&table, rows, &data, MOST).0, packed(0, MOST as u64));
     // one element less than the count says
     data.pop();
-    assert_eq!(compare.read(&data, 6 * rows).0, packed(2, data.len() as u64));
+    let measured = compare.measure(&data);
+    assert_eq!(compare.fill(&data, measured, 6 * rows).0, packed(2, data.len() as u64));
 }
 
 /// n of the limit, and one more.
@@ -145,9 +162,9 @@ fn long_registry(compare: &mut Compare) {
         data.extend([0xff, 0xf9]);
         data.extend(&((i * 7919 % entries) as u16).to_le_bytes());
     }
-    let (answer, _) = compare.read(&data, 0);
-    let rows = beside(answer) as usize;
-    let (_, table) = compare.read(&data, 6 * rows);
+    let measured = compare.measure(&data);
+    let rows = beside(measured) as usize;
+    let (_, table) = compare.fill(&data, measured, 6 * rows);
     assert_eq!(compare.check(&table, rows, &data), packed(0, rows as u64));
     assert_eq!(number(compare.write(&table, rows, &data, data.len()).0), 0);
     for row in rows - 1001..rows {

@@ -2,7 +2,8 @@
 
 mod c {
     extern "C" {
-        pub fn panxidell_read(data: *const u8, len: usize, table: *mut u32, words: usize) -> u64;
+        pub fn panxidell_measure(data: *const u8, len: usize) -> u64;
+        pub fn panxidell_fill(data: *const u8, len: usize, table: *mut u32, words: usize) -> u64;
         pub fn panxidell_check(table: *const u32, words: usize, n: usize, data: *const u8, len: usize) -> u64;
         pub fn panxidell_write(
             table: *const u32,
@@ -55,8 +56,12 @@ pub fn beside(answer: u64) -> u64 {
 
 // Every call lends whole slices, and the library is proved to stay inside them.
 
-pub fn read(data: &[u8], table: &mut [u32]) -> u64 {
-    unsafe { c::panxidell_read(data.as_ptr(), data.len(), table.as_mut_ptr(), table.len()) }
+pub fn measure(data: &[u8]) -> u64 {
+    unsafe { c::panxidell_measure(data.as_ptr(), data.len()) }
+}
+
+pub fn fill(data: &[u8], table: &mut [u32]) -> u64 {
+    unsafe { c::panxidell_fill(data.as_ptr(), data.len(), table.as_mut_ptr(), table.len()) }
 }
 
 pub fn check(table: &[u32], n: usize, data: &[u8]) -> u64 {

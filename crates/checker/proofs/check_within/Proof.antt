@@ -17,7 +17,7 @@ returns-4 : tie.Need-returns-4
 returns-4 c = search long
 
 check-value-requires : tie.Need-check-value-requires
-check-value-requires c κs = (search start-asks, search start-based)
+check-value-requires c κs = (search start-asks, search start-based, search needs)
 
 returns-5 : tie.Need-returns-5
 returns-5 c = search right

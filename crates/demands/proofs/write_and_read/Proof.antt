@@ -9,7 +9,7 @@ use Rattle.demands.proofs.write_and_read.Tie as tie
 returns : tie.Need-returns
 returns c =
     let s = c .before .before .before .before .before .before .before .before .before .before .before .before .before .before .before .before in
-    let r = c .before .before .read in
+    let r = c .before .before .fill in
     let e = read-back depthLimit (c .before .before .before .before .before .before .before .before .before .before .before .before .before .before .before .before .args .table .now) (c .before .before .before .before .before .before .before .before .before .before .before .before .before .before .before .before .args .n) (c .before .before .before .before .before .before .before .before .before .before .before .before .before .before .before .before .args .«data» .now) (c .before .before .before .before .before .before .before .before .before .before .before .before .before .before .before .before .args .out .now) (c .before .before .before .before .before .before .before .before .before .before .before .before .before .before .before .before .args .back .now) (c .before .before .before .before .before .before .before .before .before .before .write .result) (c .before .before .before .before .before .before .before .before .before .before .write .ensures .0) (c .before .before .before .before .before .before .w .given .0 .0) (c .before .before .before .before .before .before .w .given .1) (c .before .before .before .before .before .before .before .before .before .before .write .last .1 .1 .1 .0) (c .before .before .before .before .before .before .before .before .before .before .write .ensures .1) (r .result) (r .ensures .0) in
     let g = table-back depthLimit (c .before .before .before .before .before .before .before .before .before .before .before .before .before .before .before .before .args .table .now) (c .before .before .before .before .before .before .before .before .before .before .before .before .before .before .before .before .args .n) (c .before .before .before .before .before .before .before .before .before .before .before .before .before .before .before .before .args .«data» .now) (c .before .before .before .before .before .before .before .before .before .before .before .before .before .before .before .before .args .out .now) (c .before .before .before .before .before .before .before .before .before .before .before .before .before .before .before .before .args .back .now) (c .before .before .before .before .before .before .before .before .before .before .write .result) (c .before .before .before .before .before .before .before .before .before .before .write .ensures .0) (c .before .before .before .before .before .before .w .given .0 .0) (c .before .before .before .before .before .before .w .given .1) (c .before .before .before .before .before .before .before .before .before .before .write .last .1 .1 .1 .0) (c .before .before .before .before .before .before .before .before .before .before .write .ensures .1) (r .last .1 .0) (r .ensures .1) in
     (e, (c .before .before .before .before .before .before .before .before .before .before .write .ensures .1, (g, reads-back depthLimit (s .args .table .now) (s .args .n) (s .args .«data» .now) (length (s .args .out .now)) (s .args .back .now) _ _ (λ i. c .before .before .before .before .before .before .before .before .before .before .before .before .before .before .before .shared-slice-known .given i .fits) e g)))

@@ -3,7 +3,7 @@
 use super::parts::{array, bytes, damaged, declare, holder, key, leaf, none, refer, rows_of, Case, Cases};
 use super::right::random_document;
 use reference::generate::Random;
-use reference::read::read;
+use reference::measure::measure;
 use reference::rows::{kind, Row};
 use std::str::from_utf8;
 
@@ -72,11 +72,11 @@ fn bodies() -> Cases {
     let data = bytes("a1 0d 00 02 81 61 c0 00 d8 00 0d 0d 00");
     let mut cases = Vec::new();
     for (place, end) in parts(&data) {
-        let read = read(&data[place..end], &mut [0; 120]).map_or_else(|refusal| refusal.number(), |_| 0);
+        let verdict = measure(&data[place..end]).map_or_else(|refusal| refusal.number(), |_| 0);
         let (place, size) = (place as u32, (end - place) as u32);
-        let body = damaged(place, size, read);
-        cases.push(Case::new(&body, &data, read != 0));
-        cases.push(Case::new(&array(&[body.clone(), damaged(1, 6, 10), body]), &data, read != 0));
+        let body = damaged(place, size, verdict);
+        cases.push(Case::new(&body, &data, verdict != 0));
+        cases.push(Case::new(&array(&[body.clone(), damaged(1, 6, 10), body]), &data, verdict != 0));
     }
     cases
 }

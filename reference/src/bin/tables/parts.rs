@@ -1,6 +1,7 @@
 //! Tables row by row: read from a document, or put together by hand.
 
-use reference::read::read;
+use reference::fill::fill;
+use reference::measure::measure;
 use reference::rows::{kind, lent, Row};
 
 /// A table with n and its data, and whether it is right, where its maker knows.
@@ -32,11 +33,11 @@ pub fn bytes(hex: &str) -> Vec<u8> {
     hex.split_whitespace().map(|pair| u8::from_str_radix(pair, 16).unwrap()).collect()
 }
 
-/// The rows that the reader makes of a right document.
+/// The rows that the reader makes of a right document, in a table of just so many.
 pub fn rows_of(document: &[u8]) -> Vec<Row> {
-    let mut table = vec![0; 6 * document.len()];
-    let n = read(document, &mut table).expect("a right document");
-    lent(&table)[..n].to_vec()
+    let mut table = vec![0; 6 * measure(document).expect("a right document")];
+    fill(document, &mut table).expect("rows enough");
+    lent(&table).to_vec()
 }
 
 /// A row and what it holds, with ends counted from that row; those of the children are moved behind it.

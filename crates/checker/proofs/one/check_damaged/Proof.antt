@@ -5,13 +5,13 @@ use Rattle.checker.proofs.one.check_damaged.Statement.{statement}
 use Rattle.checker.proofs.one.check_damaged.Tie as tie
 
 returns : tie.Need-returns
-returns c = search damaged-whole
+returns c = search damaged-wrong
 
 returns-2 : tie.Need-returns-2
-returns-2 c = search damaged-extra
+returns-2 c = search damaged-whole
 
 returns-3 : tie.Need-returns-3
-returns-3 c = search damaged-wrong
+returns-3 c = search damaged-extra
 
 pub check-damaged-spec : {M : Type 1} → statement M
 check-damaged-spec =
@@ -22,10 +22,11 @@ check-damaged-spec =
     (λ c. search needs)
     (λ c κs. search needs)
     (λ c κs. search needs)
-    (λ c. search needs)
+    (λ c κs. search needs)
+    (λ c κs. search needs)
     returns
     (λ c κs. search needs)
-    (λ c. search needs)
-    (λ c κs. search needs)
     returns-2
+    (λ c κs. search needs)
+    (λ c κs. search needs)
     returns-3)

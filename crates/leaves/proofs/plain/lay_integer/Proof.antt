@@ -1,6 +1,6 @@
--- `leaves::plain::lay_integer` meets its contract: a law of Straight for each way out. Assumes nothing.
+-- `leaves::plain::lay_integer` meets its contract. Assumes nothing.
 use borrow.Author.Needs.{needs}
-use Rattle.leaves.proofs.Straight.{body-few, body-some, integer-laid, kept}
+use Rattle.leaves.proofs.Straight.{body-few, body-some, integer-fits, integer-inside, integer-laid}
 use Rattle.leaves.proofs.plain.lay_integer.Statement.{statement}
 use Rattle.leaves.proofs.plain.lay_integer.Tie as tie
 
@@ -10,12 +10,10 @@ lay-integer-spec =
     (tie.spec
     (λ c. search needs)
     (λ c κs. search needs)
-    (λ c. search needs)
-    (λ c. search kept)
-    (λ c κs. (search body-some, search body-few, search needs))
+    (λ c κs. (search body-some, search body-few, search integer-inside))
     (λ c κs. search needs)
     (λ c κs. search needs)
     (λ c κs. search needs)
-    (λ c. search needs)
+    (λ c. search integer-fits)
     (λ c. search needs)
     (λ c. search integer-laid))

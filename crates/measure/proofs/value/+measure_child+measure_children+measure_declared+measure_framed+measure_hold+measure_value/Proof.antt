@@ -4,7 +4,7 @@ use Prim.Native.Nat.{ℕ, _+_, _*_, _-_, _<_}
 use borrow.Author.Needs.{needs}
 use Rattle.format.specs.Value.{value}
 use Rattle.format.proofs.Heads.{declare-within, hold-few, hold-within}
-use Rattle.measure.proofs.Measures.{Kept, child-key, child-value, children-stop, declare-pos, declare-right, declare-wrong, entries-fit, entry-wrong, foreign-inside, foreign-pos, frame-extra, frame-fits, frame-right, frame-wrong, hold-pos, hold-right, hold-wrong, holder-fits, kept-all, kept-first, kept-fits, kept-next, kept-wrong, value-declare, value-deep, value-foreign, value-hold, value-leaf, value-no-entry, value-refer, value-refuse, whole-fits}
+use Rattle.measure.proofs.Measures.{Kept, all-fit, child-key, child-value, children-low, children-stop, declare-few, declare-low, declare-pos, declare-right, declare-wrong, entry-wrong, foreign-inside, foreign-pos, frame-extra, frame-few, frame-right, frame-wrong, hold-pos, hold-right, hold-wrong, holder-few, kept-all, kept-few, kept-first, kept-fits, kept-low, kept-next, kept-one, kept-plus, kept-wrong, leaf-low, refer-low, refuse-low, row-fits, rows-fit, value-declare, value-deep, value-foreign, value-hold, value-leaf, value-no-entry, value-refer, value-refuse}
 use borrow.Fn.Kinds.{In}
 use borrow.Fn.PlainCycle.{Measures, is, falls, and}
 use Rattle.measure.proofs.value.measure_child.Reads as measure-child
@@ -25,13 +25,20 @@ use Rattle.measure.proofs.value.+measure_child+measure_children+measure
 use Rattle.measure.proofs.value.measure_value.Reads as measure-value
 use Rattle.measure.proofs.value.measure_value.Kinds as measure-value-kinds
 use Rattle.measure.proofs.value.+measure_child+measure_children+measure_declared+measure_framed+measure_hold+measure_value.Lts-measure_value as measure-value-lts
-use Rattle.format.proofs.head.Holder.children.Reads as children-reads
-use Rattle.format.proofs.head.Holder.reading.Reads as reading-reads
+use Rattle.format.proofs.in_foreign.Reads as in-foreign-reads
 use Rattle.format.proofs.head.Children.in_force.Reads as in-force-reads
 use Rattle.format.proofs.head.Children.is_key.Reads as is-key-reads
+use Rattle.format.proofs.head.Holder.children.Reads as children-reads
+use Rattle.format.proofs.head.Holder.reading.Reads as reading-reads
 use Rattle.heads.proofs.head_at.Reads as head-at-reads
-use Rattle.format.proofs.in_foreign.Reads as in-foreign-reads
 use Rattle.measure.proofs.key.measure_key.Reads as measure-key-reads
+use Rattle.measure.proofs.plain.end_child.Reads as end-child-reads
+use Rattle.measure.proofs.told.either.Reads as either-reads
+use Rattle.measure.proofs.told.is_broken.Reads as is-broken-reads
+use Rattle.measure.proofs.told.place_in.Reads as place-in-reads
+use Rattle.measure.proofs.told.right.Reads as right-reads
+use Rattle.measure.proofs.told.row_in.Reads as row-in-reads
+use Rattle.measure.proofs.told.wrong.Reads as wrong-reads
 use Rattle.measure.proofs.value.+measure_child+measure_children+measure_declared+measure_framed+measure_hold+measure_value.{
   statement,
 }
@@ -142,11 +149,12 @@ measure-value-below t =
     measure-value.Pre
 
 abbrev measure-children-Inv-loop : measure-children-lts.InvT-loop
-measure-children-Inv-loop s at stop levels around children count i₀ rows₀ place₀ i rows place =
-    Kept (value levels s) children s around count at stop i rows place
+measure-children-Inv-loop s at stop levels around children count i₀ rows₀ place₀ broken₀ i rows place broken =
+    Kept (value levels s) children s around count at stop i rows place broken
 
 abbrev measure-children-μ-loop : measure-children-lts.MeasureT-loop
-measure-children-μ-loop s at stop levels around children count i₀ rows₀ place₀ i rows place = count - i
+measure-children-μ-loop s at stop levels around children count i₀ rows₀ place₀ broken₀ i rows place broken =
+    count - i
 
 pub +measure-child+measure-children+measure-declared+measure-framed+measure-hold+measure-value-spec :
     {M : Type 1} → statement M
@@ -176,58 +184,106 @@ pub +measure-child+measure-children+measure-declared+measure-framed+measure-hold
     (λ c κs. search needs)
     (λ c κs. search needs)
     (λ c. search child-value))
-    (λ t. measure-children-lts.spec
-    (measure-child-below t, measure-child.Post)
+    (λ t. measure-children-lts.spec (
+      end-child-reads.Asked,
+      end-child-reads.Learnt,
+      measure-child-below t,
+      measure-child.Post,
+      row-in-reads.Asked,
+      row-in-reads.Learnt,
+      place-in-reads.Asked,
+      place-in-reads.Learnt,
+      is-broken-reads.Asked,
+      is-broken-reads.Learnt,
+      either-reads.Asked,
+      either-reads.Learnt,
+      right-reads.Asked,
+      right-reads.Learnt,
+    )
     (measure-children-at t)
     measure-children.Post
     measure-children-Inv-loop
     measure-children-μ-loop
     (λ c. search kept-first)
     (λ c κs. search needs)
-    (λ c. search needs)
+    (λ c κs. search needs)
+    (λ c. search kept-wrong)
+    (λ c κs. search needs)
     (λ c. search kept-fits)
+    (λ c κs. search needs)
+    (λ c κs. search needs)
+    (λ c κs. search needs)
     (λ c. search needs)
     (λ c. search needs)
     (λ c. search kept-next)
+    (λ c. search kept-plus)
     (λ c. search needs)
-    (λ c. search kept-wrong)
+    (λ c. search needs)
+    (λ c. search kept-one)
+    (λ c κs. search (needs, kept-low, kept-few))
     (λ c. search kept-all))
     (λ t. measure-declared-lts.spec (
       measure-children-below t,
       measure-children.Post,
+      place-in-reads.Asked,
+      place-in-reads.Learnt,
       measure-value-below t,
       measure-value.Post,
+      is-broken-reads.Asked,
+      is-broken-reads.Learnt,
+      either-reads.Asked,
+      either-reads.Learnt,
+      row-in-reads.Asked,
+      row-in-reads.Learnt,
+      right-reads.Asked,
+      right-reads.Learnt,
     )
     (measure-declared-at t)
     measure-declared.Post
     (λ c κs. search needs)
-    (λ c. search needs)
+    (λ c. search entry-wrong)
+    (λ c κs. search needs)
     (λ c κs. search (needs, children-stop))
-    (λ c. search needs)
-    (λ c. search entries-fit)
-    (λ c. search whole-fits)
-    (λ c. search needs)
-    (λ c. search needs)
-    (λ c. search declare-right)
     (λ c. search declare-wrong)
-    (λ c. search entry-wrong))
+    (λ c κs. search needs)
+    (λ c κs. search needs)
+    (λ c κs. search needs)
+    (λ c κs. search needs)
+    (λ c κs. search needs)
+    (λ c. search rows-fit)
+    (λ c. search all-fit)
+    (λ c κs. search needs)
+    (λ c κs. search (needs, declare-low, declare-few))
+    (λ c. search declare-right))
     (λ t. measure-framed-lts.spec (
       in-foreign-reads.Asked,
       in-foreign-reads.Learnt,
       measure-value-below t,
       measure-value.Post,
+      right-reads.Asked,
+      right-reads.Learnt,
+      place-in-reads.Asked,
+      place-in-reads.Learnt,
+      row-in-reads.Asked,
+      row-in-reads.Learnt,
+      is-broken-reads.Asked,
+      is-broken-reads.Learnt,
     )
     (measure-framed-at t)
     measure-framed.Post
     (λ c. search needs)
     (λ c κs. search needs)
     (λ c κs. search needs)
-    (λ c. search needs)
-    (λ c. search frame-fits)
+    (λ c κs. search needs)
+    (λ c. search frame-wrong)
+    (λ c κs. search needs)
+    (λ c κs. search needs)
+    (λ c. row-fits _ (c .row-in .result) (c .row-in .ensures))
+    (λ c κs. search needs)
+    (λ c κs. search (needs, frame-few))
     (λ c. search frame-right)
-    (λ c. search needs)
-    (λ c. search frame-extra)
-    (λ c. search frame-wrong))
+    (λ c κs. search needs)
+    (λ c. search frame-extra))
     (λ t. measure-hold-lts.spec (
       children-reads.Asked,
       children-reads.Learnt,
@@ -235,20 +291,34 @@ pub +measure-child+measure-children+measure-declared+measure-framed+measure-hold
       reading-reads.Learnt,
       measure-children-below t,
       measure-children.Post,
+      row-in-reads.Asked,
+      row-in-reads.Learnt,
+      place-in-reads.Asked,
+      place-in-reads.Learnt,
+      is-broken-reads.Asked,
+      is-broken-reads.Learnt,
+      right-reads.Asked,
+      right-reads.Learnt,
     )
     (measure-hold-at t)
     measure-hold.Post
     (λ c κs. search needs)
     (λ c κs. search needs)
     (λ c κs. search needs)
-    (λ c. search needs)
-    (λ c. search holder-fits)
-    (λ c. search needs)
-    (λ c. search hold-right)
-    (λ c. search hold-wrong))
+    (λ c. search hold-wrong)
+    (λ c κs. search needs)
+    (λ c. row-fits _ (c .row-in .result) (c .row-in .ensures))
+    (λ c κs. search needs)
+    (λ c κs. search needs)
+    (λ c κs. search (needs, children-low, holder-few))
+    (λ c. search hold-right))
     λ t. measure-value-lts.spec (
+      wrong-reads.Asked,
+      wrong-reads.Learnt,
       head-at-reads.Asked,
       head-at-reads.Learnt,
+      right-reads.Asked,
+      right-reads.Learnt,
       measure-hold-below t,
       measure-hold.Post,
       measure-declared-below t,
@@ -258,12 +328,17 @@ pub +measure-child+measure-children+measure-declared+measure-framed+measure-hold
     )
     (measure-value-at t)
     measure-value.Post
+    (λ c κs. search needs)
     (λ c. search value-deep)
     (λ c κs. search needs)
     (λ c. search needs)
+    (λ c κs. search (needs, leaf-low))
     (λ c. search needs)
+    (λ c κs. search (needs, refer-low))
     (λ c. search value-refer)
+    (λ c κs. search needs)
     (λ c. search needs)
+    (λ c κs. search (needs, refuse-low))
     (λ c. search needs)
     (λ c. search needs)
     (λ c κs. search (needs, hold-pos, hold-within, hold-few))

@@ -1,0 +1,26 @@
+-- `leaves::ends::end_plain` meets its contract: a law of Straight for each way out. Assumes nothing.
+use borrow.Author.Needs.{needs}
+use Rattle.leaves.proofs.Straight.{integer-asked, not-asked, small-asked, text-asked-at}
+use Rattle.leaves.proofs.ends.end_plain.Statement.{statement}
+use Rattle.leaves.proofs.ends.end_plain.Tie as tie
+
+pub end-plain-spec : {M : Type 1} → statement M
+end-plain-spec =
+    tie.close
+    (tie.spec
+    (λ c. search not-asked)
+    (λ c. search needs)
+    (λ c κs. search needs)
+    (λ c κs. search needs)
+    (λ c. search needs)
+    (λ c. search needs)
+    (λ c κs. search needs)
+    (λ c κs. search needs)
+    (λ c. search integer-asked)
+    (λ c. search needs)
+    (λ c. search small-asked)
+    (λ c. search needs)
+    (λ c. search needs)
+    (λ c κs. search needs)
+    (λ c. search text-asked-at)
+    (λ c. search not-asked))

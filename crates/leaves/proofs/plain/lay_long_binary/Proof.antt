@@ -1,0 +1,18 @@
+-- `leaves::plain::lay_long_binary` meets its contract: a law of Straight for each way out. Assumes nothing.
+use borrow.Author.Needs.{needs}
+use Rattle.leaves.proofs.Straight.{behind-after, behind-within, bodied-known, bodied-tried, kept}
+use Rattle.leaves.proofs.plain.lay_long_binary.Statement.{statement}
+use Rattle.leaves.proofs.plain.lay_long_binary.Tie as tie
+
+pub lay-long-binary-spec : {M : Type 1} → statement M
+lay-long-binary-spec =
+    tie.close
+    (tie.spec
+    (λ c. search needs)
+    (λ c κs. search needs)
+    (λ c. search needs)
+    (λ c κs. (search bodied-known, ((search behind-after, search behind-within, search needs, search needs), search needs)))
+    (λ c. search needs)
+    (λ c. search needs)
+    (λ c. search bodied-tried)
+    (λ c. search kept))

@@ -1,0 +1,17 @@
+-- `reader::lay_document` meets its contract. Assumes nothing.
+use borrow.Author.Needs.{needs}
+use Rattle.reader.proofs.Whole.{document-did, document-ready, used-fits}
+use Rattle.reader.proofs.lay_document.Statement.{statement}
+use Rattle.reader.proofs.lay_document.Tie as tie
+
+pub lay-document-spec : {M : Type 1} → statement M
+lay-document-spec =
+    tie.close
+    (tie.spec
+    (λ c. search needs)
+    (λ c κs. (search document-ready, search needs))
+    (λ c κs. search needs)
+    (λ c. search used-fits)
+    (λ c κs. search needs)
+    (λ c. search needs)
+    (λ c. search document-did))
