@@ -10,7 +10,7 @@ lay-reference-spec =
     tie.close
     (tie.spec
     (λ c κs. (search ready-within, search refer-many, search refer-below, search refer-based))
-    (λ c κs. (search ready-low, search refer-few, search refer-entry))
+    (λ c κs. (search ready-low, search (refer-few, refer-entry), search (refer-few, refer-entry)))
     (λ c κs. search ready-lent)
     (λ c. search under-fits)
     (λ c κs. (search refer-next, search ready-past))
