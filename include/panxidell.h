@@ -118,8 +118,8 @@ uint64_t panxidell_measure(const uint8_t *data, size_t len);
 /* Fills table with the rows of the document data[0..len).
  *   0: rows used, as many as panxidell_measure says. They stand from the front of the table on, every number behind them is 0.
  *   1, 2..10: as panxidell_measure answers. 11: asked last. Every number of the table is 0, those behind the last whole row too.
- * The document is measured whole before a number of the table is written, and under a refusal nothing but zeros is written: no row of a
- * document that is refused stands in the table, not for a while either. */
+ * The document is measured whole before a row is written, and under a refusal nothing but zeros is written: no row of a document that is
+ * refused stands in the table, not for a while either. */
 uint64_t panxidell_fill(const uint8_t *data, size_t len, uint32_t *table, size_t words);
 
 /* Whether the first n rows of table obey the row rules over data, wherever they came from. Rows behind n are not looked at.

@@ -5,7 +5,7 @@ use reference::generate::{shortest, Node, Random};
 /// A passage: tag, milliseconds of a race day (three bytes), panel.
 fn passage(tag: Node, i: usize) -> Node {
     let time = 83_456 + 37 * i as u128 % 16_000_000;
-    Node::Array(vec![tag, Node::Unsigned(time), Node::Unsigned(1 + i as u128 % 4)])
+    Node::Array(vec![tag, Node::Unsigned(time), Node::Unsigned(1 + i as u128 % 2)])
 }
 
 fn tag(random: &mut Random) -> Node {

@@ -13,12 +13,10 @@ use Rattle.rows.specs.Kinds.{kindKey}
 use Rattle.registry.specs.Contracts.{walk, chain}
 use Rattle.registry.proofs.Walks.{length-chain, chain-at}
 use Rattle.format.specs.declared.refusal.Refusal.{Refusal}
-use Rattle.format.specs.declared.refusal.Refusal.the-variants as why
 use Rattle.format.specs.Value.{Reading, wrong, inForeign, value, whole}
-use Rattle.format.proofs.Steps.{whole-right, whole-extra, whole-wrong}
-use Rattle.format.proofs.Values.{value-read}
-use Rattle.measure.specs.Contracts.{measuredOf, told, placeIn, numberWrong, placeWrong, refusalOf}
-use Rattle.measure.proofs.Numbers.{ReadRight, read-right, read-wrong, wrong-number}
+use Rattle.format.proofs.Values.{ReadAt, value-read, whole-read}
+use Rattle.measure.specs.Contracts.{measuredOf, told, numberWrong, placeWrong, refusalOf}
+use Rattle.measure.proofs.Numbers.{read-right, read-wrong, wrong-number}
 use Rattle.rules.specs.declared.shape.Shape.{Shape}
 use Rattle.rules.specs.declared.shape.Shape.the-variants.{Bad, Leaf, Refer, Hold, Declare, Whole, Damaged}
 use Rattle.format.specs.Tree.{leaf, damaged}
@@ -135,38 +133,25 @@ judged-wrong row w x e p v h is = rw (h, is) (go (eqb (w .w2) (refusalNumber e))
     go false = refl
 
 module _ (s : List ℕ) (row d around k place size : ℕ) (w : Row) (in-force : k ≡ inForeign around) (f : place ≡ w .w0) (g : size ≡ w .w1) (m : ℕ)
-    (read : m ≡ told (measuredOf (value d s k place (place + size)))) (inside : w .w0 + w .w1 ≤ length s) (big : length s ≤ limit) where
+    (read : m ≡ told (measuredOf (whole (place + size) (value d s k place (place + size))))) (inside : w .w0 + w .w1 ≤ length s) (big : length s ≤ limit) where
   abbrev stop : ℕ
   stop = w .w0 + w .w1
 
   abbrev x : Reading
-  x = value d s (inForeign around) (w .w0) stop
+  x = whole stop (value d s (inForeign around) (w .w0) stop)
 
   there : m ≡ told (measuredOf x)
   there =
-      read ∙ ap₂ (λ (a b : ℕ). told (measuredOf (value d s k a (a + b)))) f g ∙ ap (λ (a : ℕ). told (measuredOf (value d s a (w .w0) stop))) in-force
+      read ∙ ap₂ (λ (a b : ℕ). told (measuredOf (whole (a + b) (value d s k a (a + b))))) f g ∙ ap (λ (a : ℕ). told (measuredOf (whole stop (value d s a (w .w0) stop)))) in-force
 
-  ends : place + size ≡ stop
-  ends = ap₂ (λ (a b : ℕ). a + b) f g
+  x-read : ReadAt (w .w0) stop x
+  x-read = whole-read (w .w0) stop (value d s (inForeign around) (w .w0) stop) (value-read d s (inForeign around) (w .w0) stop)
 
   pub damaged-wrong : 72057594037927936 ≤ m → (v : ℕ) (q : Extent) → v ≡ numberWrong m → q ≡ verdictIs row (w .w2) v
-      → q ≡ extentOf (judged row (ownOf w) (whole (w .w0 + w .w1) x))
+      → q ≡ extentOf (judged row (ownOf w) (whole (w .w0 + w .w1) (value d s (inForeign around) (w .w0) (w .w0 + w .w1))))
   damaged-wrong h v q is j =
-      let e : x ≡ wrong (refusalOf (numberWrong m)) (placeWrong m) =
-      read-wrong (w .w0) stop x (value-read d s (inForeign around) (w .w0) stop) (omega arith) (omega arith) m there h in
-      j ∙ judged-wrong row w (whole stop x) (refusalOf (numberWrong m)) (placeWrong m) v (whole-wrong stop x _ _ e)
-      (is ∙ wrong-number (w .w0) stop x (value-read d s (inForeign around) (w .w0) stop) (omega arith) (omega arith) m there _ _ e)
+      let e : x ≡ wrong (refusalOf (numberWrong m)) (placeWrong m) = read-wrong (w .w0) stop x x-read (omega arith) (omega arith) m there h in
+      j ∙ judged-wrong row w x (refusalOf (numberWrong m)) (placeWrong m) v e (is ∙ wrong-number (w .w0) stop x x-read (omega arith) (omega arith) m there _ _ e)
 
-  module _ (h : m < 72057594037927936) (next : ℕ) (n : next ≡ placeIn m) where
-    right-there : ReadRight x m
-    right-there = read-right (w .w0) stop x (value-read d s (inForeign around) (w .w0) stop) (omega arith) (omega arith) m there h
-
-    pub damaged-whole : next ≡ place + size → Broken ≡ extentOf (judged row (ownOf w) (whole (w .w0 + w .w1) x))
-    damaged-whole e =
-        sym (ap (λ (z : Reading). extentOf (judged row (ownOf w) z)) (whole-right stop x (right-there .tree) (placeIn m) (right-there .is) (sym n ∙ e ∙ ends)))
-
-    pub damaged-extra : (next ≡ place + size → ⊥) → (v : ℕ) (q : Extent) → v ≡ refusalNumber why.Extra → q ≡ verdictIs row (w .w2) v
-        → q ≡ extentOf (judged row (ownOf w) (whole (w .w0 + w .w1) x))
-    damaged-extra e v q is j =
-        j ∙ judged-wrong row w (whole stop x) why.Extra (placeIn m) v
-        (whole-extra stop x (right-there .tree) (placeIn m) (right-there .is) (λ z. e (n ∙ z ∙ sym ends))) is
+  pub damaged-right : m < 72057594037927936 → Broken ≡ extentOf (judged row (ownOf w) (whole (w .w0 + w .w1) (value d s (inForeign around) (w .w0) (w .w0 + w .w1))))
+  damaged-right h = sym (ap (λ (z : Reading). extentOf (judged row (ownOf w) z)) (read-right (w .w0) stop x x-read (omega arith) (omega arith) m there h .is))

@@ -8,7 +8,6 @@ ghost use Rattle.format.specs.Value.{inForeign, value, whole};
 ghost use Rattle.rules.specs.Grow.{keyRow, growKey, pointing, judged};
 ghost use Rattle.checker.specs.Contracts.{isAlone, standsAlone, extentOf, endingAt, verdictIs};
 use crate::extent::Extent;
-use format::Refusal;
 use measure::told;
 use rows::Row;
 use rules::Shape;
@@ -119,12 +118,9 @@ pub fn check_damaged(s: &[u8], row: usize, levels: usize, around: usize, w: Row)
 {
     let place = rows::number(w.w0);
     let end = place + rows::number(w.w1);
-    let f = measure::measure_value(s, place, end, levels, format::in_foreign(around));
+    let f = measure::measure_whole(s, place, end, levels, format::in_foreign(around));
     if told::WRONG <= f {
         return verdict_is(row, w, told::number_in(f));
     }
-    if told::place_in(f) == end {
-        return Extent::Broken;
-    }
-    verdict_is(row, w, Refusal::Extra.number())
+    Extent::Broken
 }

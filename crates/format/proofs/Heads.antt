@@ -425,9 +425,6 @@ module _ (s : List ℕ) (at stop : ℕ) (h : Head) (head : h ≡ headAt s at sto
     pub refer-at : CountAt at stop n next
     refer-at = stood-as (Refer n next) refer
 
-    pub refer-after : at < next
-    refer-after = refer-at .after
-
     pub refer-within : next ≤ stop
     refer-within = refer-at .within
 

@@ -110,7 +110,7 @@ declaring-read : (at from stop n : ℕ) → at < from → (y : Readings) → Run
 declaring-read at from stop n h (ran es m) r R g = closed-read at from m stop n es h r (R n m stop) (g m)
 declaring-read at from stop n h (broke e place) r R g = omega arith
 
-whole-read : (at stop : ℕ) (x : Reading) → ReadAt at stop x → ReadAt at stop (whole stop x)
+pub whole-read : (at stop : ℕ) (x : Reading) → ReadAt at stop x → ReadAt at stop (whole stop x)
 whole-read at stop (right t next) k = go (eqb next stop)
   where
     go : (b : Bool) → ReadAt at stop (ended b t next)
@@ -200,9 +200,6 @@ module _ (d : ℕ) (c : Children) (s : List ℕ) (k i n at stop : ℕ) (h : at �
 
   pub run-within : next ≤ stop
   run-within = ran-at .within
-
-  pub run-rows : at + sizes ts ≤ next
-  run-rows = ran-at .rows
 
 -- ---- a document
 

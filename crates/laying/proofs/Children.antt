@@ -1,7 +1,7 @@
 -- Positions in a row: the first and those behind it, the registry that grows where they are entries, and a loop over them. Assumes nothing.
 use mathlib.Core.Path.{_≡_, _∙_, sym, ap, refl}
-use mathlib.Core.Bool.{Bool, true, false, _||_}
-use mathlib.Core.List.{List, []}
+use mathlib.Core.Bool.{Bool, true, false}
+use mathlib.Core.List.{List}
 use Prim.Native.Nat.{ℕ, zero, suc, _+_, _-_, _*_, _≤_, _<_}
 use native.Mathlib.Nat.{add-zero}
 use native.Mathlib.Omega.{arith}
@@ -12,7 +12,7 @@ use Rattle.rows.proofs.Rows.{lent-sets}
 use Rattle.format.specs.declared.head.Children.{Children}
 use Rattle.format.specs.declared.head.Children.the-variants.{Plain, Keyed, Entries}
 use Rattle.format.specs.Tree.{Tree, Trees, many, size, sizes}
-use Rattle.format.specs.Value.{Reading, right, wrong, Readings, ran, broke, Reader, inForce, child, follow, readings, value}
+use Rattle.format.specs.Value.{Reading, right, wrong, Readings, Reader, inForce, child, follow, readings, value}
 use Rattle.format.specs.Layout.{isEntry, layout, grown}
 use Rattle.format.proofs.Layouts.{lay-more}
 use Rattle.format.proofs.Values.{ReadAt, values-child}

@@ -32,17 +32,17 @@ use Rattle.format.specs.declared.head.Head.the-variants.{Leaf, Hold, Refer, Dec
 use Rattle.format.specs.declared.head.Children.{Children}
 use Rattle.format.specs.declared.head.Children.the-variants.{Entries}
 use Rattle.format.specs.Refusal.{refusalNumber}
-use Rattle.format.specs.Tree.{Tree, leaf, refer, damaged, many, size}
+use Rattle.format.specs.Tree.{leaf, refer, damaged, many, size}
 use Rattle.format.specs.Head.{countAt, spelled, spelling, spellingOf, headAt, keyAt}
 use Rattle.format.specs.Value.{Reading, right, wrong, Readings, leafOwn, kindOf, childCount, childrenOf, keyed, child, isKey, inForce, readings, holding, declaring, whole, framed, inForeign, value}
 use Rattle.format.specs.Layout.{layout}
 use Rattle.format.proofs.Heads as heads
 use Rattle.format.proofs.Steps as clauses
-use Rattle.format.proofs.Values.{value-read}
+use Rattle.format.proofs.Values.{ReadAt, value-read, whole-read}
 use Rattle.heads.proofs.Positions.{head-missing, head-refer}
 use Rattle.measure.specs.Contracts.{harmed, measuredOf, placeAndRow, placeIn, rowIn, told, isBroken, numberWrong}
 use Rattle.measure.proofs.Numbers.{ReadRight, read-right, read-wrong, wrong-number}
-use Rattle.registry.specs.Contracts.{walk, chain, Below, firstIn, Based, baseOf}
+use Rattle.registry.specs.Contracts.{walk, Below, firstIn, Based, baseOf}
 use Rattle.registry.proofs.Walks.{chain-at, entry-based, entry-below}
 use Rattle.leaves.specs.Contracts.{Known, ContentInside, LeafTried}
 use Rattle.laying.specs.Contracts.{KeyLaid, Damaged, Right, treeRead, treesRead, nextOf, Ready, Did, OneTried, ReadyAll, DidAll}
@@ -377,49 +377,36 @@ module _ (s : List ℕ) (d k p n : ℕ) (doubt : Bool) (table : List ℕ) (row b
 
   module _ (m : ℕ) (in-force : m ≡ inForeign k) where
     -- it was measured
-    module _ (within : p + n ≤ length s) (few : length s ≤ limit) (f : ℕ) (measured : f ≡ told (measuredOf (value d s m p (p + n)))) where
-      is : f ≡ told (measuredOf body)
+    module _ (within : p + n ≤ length s) (few : length s ≤ limit) (f : ℕ) (measured : f ≡ told (measuredOf (whole (p + n) (value d s m p (p + n))))) where
+      is : f ≡ told (measuredOf (whole (p + n) body))
       is = rw in-force at measured
 
-      low : p + n ≤ limit
-      low = omega arith
+      read : ReadAt p (p + n) (whole (p + n) body)
+      read = whole-read p (p + n) body (value-read d s (inForeign k) p (p + n))
 
-      begins : p ≤ p + n
-      begins = omega arith
+      rightly : f < 72057594037927936 → ReadRight (whole (p + n) body) f
+      rightly h = read-right p (p + n) (whole (p + n) body) read (omega arith) (omega arith) f is h
 
-      rightly : f < 72057594037927936 → ReadRight body f
-      rightly h = read-right p (p + n) body (value-read d s (inForeign k) p (p + n)) begins low f is h
-
-      whole-body : (h : f < 72057594037927936) → placeIn f ≡ p + n → whole (p + n) body ≡ right (rightly h .tree) (placeIn f)
-      whole-body h e = clauses.whole-right (p + n) body (rightly h .tree) (placeIn f) (rightly h .is) e
-
-      pub body-right : f < 72057594037927936 → (place : ℕ) → place ≡ placeIn f → place ≡ p + n → Right (whole (p + n) (value d s (inForeign k) p (p + n)))
+      pub body-right : f < 72057594037927936 → Right (whole (p + n) (value d s (inForeign k) p (p + n)))
       unfolding Right
-      body-right h place ep e = subst Right (sym (whole-body h (sym ep ∙ e))) tt
+      body-right h = subst Right (sym (rightly h .is)) tt
 
-      pub body-ready : f < 72057594037927936 → (place : ℕ) → place ≡ placeIn f → place ≡ p + n → (b : Bool) → b ≡ isBroken f
-          → Ready (framed p n (whole (p + n) (value d s (inForeign k) p (p + n)))) b table row base k
+      pub body-ready : f < 72057594037927936 → (b : Bool) → b ≡ isBroken f → Ready (framed p n (whole (p + n) (value d s (inForeign k) p (p + n)))) b table row base k
       unfolding harmed treeRead
-      body-ready h place ep e b eb =
+      body-ready h b eb =
           record {
             good = r .good;
             room = r .room;
             small = r .small;
             below = r .below;
             based = r .based;
-            sure = λ q. ap (λ (x : Reading). harmed (treeRead (framed p n x))) (whole-body h (sym ep ∙ e)) ∙ rightly h .broken ∙ sym eb ∙ q;
+            sure = λ q. ap (λ (x : Reading). harmed (treeRead (framed p n x))) (rightly h .is) ∙ rightly h .broken ∙ sym eb ∙ q;
           }
 
       pub body-damaged : 72057594037927936 ≤ f → (v : ℕ) → v ≡ numberWrong f → Damaged (whole (p + n) (value d s (inForeign k) p (p + n))) v
       body-damaged h v e =
-          let read = value-read d s (inForeign k) p (p + n) in
-          let x = read-wrong p (p + n) body read begins low f is h in
-          record { reason = _; place = _; is = clauses.whole-wrong (p + n) body _ _ x; number = e ∙ wrong-number p (p + n) body read begins low f is _ _ x }
-
-      pub body-extra : f < 72057594037927936 → (place : ℕ) → place ≡ placeIn f → (place ≡ p + n → ⊥) → (v : ℕ) → v ≡ refusalNumber why.Extra
-          → Damaged (whole (p + n) (value d s (inForeign k) p (p + n))) v
-      body-extra h place ep longer v e =
-          record { reason = why.Extra; place = placeIn f; is = clauses.whole-extra (p + n) body (rightly h .tree) (placeIn f) (rightly h .is) (λ q. longer (ep ∙ q)); number = e }
+          let x = read-wrong p (p + n) (whole (p + n) body) read (omega arith) (omega arith) f is h in
+          record { reason = _; place = _; is = x; number = e ∙ wrong-number p (p + n) (whole (p + n) body) read (omega arith) (omega arith) f is _ _ x }
 
     -- a right one
     module _ (good : Right (whole (p + n) (value d s (inForeign k) p (p + n)))) where

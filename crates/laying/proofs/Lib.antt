@@ -4,3 +4,4 @@ pub mod Growth
 pub mod Lays
 pub mod Steps
 pub mod Views
+pub mod Whole

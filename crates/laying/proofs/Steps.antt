@@ -18,7 +18,7 @@ use Rattle.format.specs.Value.{Reading, right, Readings, Reader, childrenOf, ho
 use Rattle.format.specs.Layout.{layout, layouts, entries, inBody}
 use Rattle.format.proofs.Layouts.{no-entry, around-force, in-foreign-few, size-pos, lay-hold, lay-foreign, lay-declare, entries-each}
 use Rattle.measure.specs.Contracts.{harmed, someHarmed, placeAndRow, placeIn, rowIn}
-use Rattle.registry.specs.Contracts.{chain, Below, firstIn, Based, baseOf}
+use Rattle.registry.specs.Contracts.{chain, firstIn, baseOf}
 use Rattle.registry.proofs.Walks.{based-fewer, based-plain, based-rows, chain-fewer, first-base, first-plain, length-chain, below-fewer, below-none, walk-start}
 use Rattle.laying.specs.Contracts.{Right, treeRead, nextOf, treesRead, nextsOf, Ready, Did, ReadyAll, DidAll}
 use Rattle.laying.proofs.Growth.{chain-declared, below-declared}

@@ -3,7 +3,7 @@
 // here is damaged.
 ghost use Prim.Native.Nat.{_+_, _≤_, _<_};
 ghost use lib.ListN.{length};
-ghost use Rattle.rows.specs.Table.{lent, limit};
+ghost use Rattle.rows.specs.Table.{limit};
 ghost use Rattle.rows.specs.Kinds.{holderOwn};
 ghost use Rattle.format.specs.declared.head.Children.the-variants.{Entries};
 ghost use Rattle.format.specs.Value.{kindOf, childCount, childrenOf, readings, holding, declaring, whole, inForeign, framed, value};
@@ -16,7 +16,6 @@ use crate::one::lay_reference;
 use format::Children;
 use format::Head;
 use format::Holder;
-use format::Refusal;
 use measure::told;
 use measure::told::place_and_row;
 use measure::told::place_in;
@@ -220,7 +219,7 @@ fn lay_foreign(
     if doubt {
         let end = place + size;
         let inside = format::in_foreign(around);
-        let f = measure::measure_value(s, place, end, levels, inside);
+        let f = measure::measure_whole(s, place, end, levels, inside);
         if told::WRONG <= f {
             let verdict = told::number_in(f);
             return lay_damaged(
@@ -236,23 +235,8 @@ fn lay_foreign(
                 verdict,
             );
         }
-        if place_in(f) == end {
-            let broken = told::is_broken(f);
-            return lay_right(table, s, place, size, levels, row, base, around, broken);
-        }
-        let extra = Refusal::Extra.number();
-        return lay_damaged(
-            table,
-            s,
-            place,
-            size,
-            levels,
-            row,
-            base,
-            around,
-            doubt,
-            extra,
-        );
+        let broken = told::is_broken(f);
+        return lay_right(table, s, place, size, levels, row, base, around, broken);
     }
     lay_right(table, s, place, size, levels, row, base, around, false)
 }

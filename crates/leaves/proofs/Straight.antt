@@ -23,11 +23,11 @@ use Rattle.text.specs.declared.answer.Text.the-variants.{WellFormed, IllFormed}
 use Rattle.text.specs.Check.{textOf, wellFormed}
 use Rattle.rows.specs.declared.row.Row.{Row}
 use Rattle.rows.specs.Table.{wordsPerRow, wordsOf, limit}
-use Rattle.rows.specs.Kinds.{kindSmall, kindText, kindBinary, spanOwn, leafRow}
+use Rattle.rows.specs.Kinds.{kindSmall, kindText, kindBinary, constantOwn, spanOwn, leafRow}
 use Rattle.format.specs.declared.head.Count.{Count}
 use Rattle.format.specs.declared.head.Count.the-variants.{Is, Not}
 use Rattle.format.specs.declared.head.Content.{Content}
-use Rattle.format.specs.declared.head.Content.the-variants.{Small, Integer, Span}
+use Rattle.format.specs.declared.head.Content.the-variants.{Constant, Small, Integer, Span}
 use Rattle.format.specs.declared.head.Head.{Head}
 use Rattle.format.specs.declared.head.Head.the-variants.{Leaf, Refuse}
 use Rattle.format.specs.declared.refusal.Refusal.{Refusal}
@@ -36,11 +36,11 @@ use Rattle.format.specs.declared.head.Spelling.{Spelling}
 use Rattle.format.specs.declared.head.Spelling.the-variants.{At, No}
 use Rattle.format.specs.Head.{countAt, bodied, spelled, spelling, spellingOf, integerHead, textHead, binaryHead, headAt, keyAt}
 use Rattle.format.specs.Value.{integerOwn, integerKind, leafOwn}
-use Rattle.format.proofs.Heads.{CountAt, count-at}
+use Rattle.format.proofs.Heads.{leaf-after}
 use Rattle.heads.proofs.Counts.{length-one}
 use Rattle.heads.proofs.Positions as positions
-use Rattle.leaves.specs.Contracts.{Known, endOf, LeafEnds, LeafAsked, KeyEnds, KeyAsked, LeafTried}
-use Rattle.leaves.proofs.Leaves.{small-row, integer-row, span-row}
+use Rattle.leaves.specs.Contracts.{Known, endOf, LeafEnds, LeafAsked, KeyEnds, KeyAsked, LeafLaid, LeafTried}
+use Rattle.leaves.proofs.Leaves.{constant-row, small-row, integer-row, span-row}
 
 -- ---- what a body asks
 
@@ -52,11 +52,12 @@ body-few rank size h e = omega (arith, size-high rank h)
 
 -- ---- what is no refusal
 
-pub known-as : (h h' : Head) → h ≡ h' → Known h' → Known h
-known-as h h' e k = subst Known (sym e) k
+-- what stands at `at`, said otherwise
+pub known-as : (h : Head) (s : List ℕ) (at stop : ℕ) → Known (headAt s at stop) → h ≡ headAt s at stop → Known h
+known-as h s at stop k e = subst Known (sym e) k
 
 -- its bytes are there
-pub body-there : (at place size stop : ℕ) (c : Content) → Known (bodied at c place size stop) → size ≤ stop - place
+body-there : (at place size stop : ℕ) (c : Content) → Known (bodied at c place size stop) → size ≤ stop - place
 body-there at place size stop c k = of (leb size (stop - place)) refl k
   where
     of : (b : Bool) → leb size (stop - place) ≡ b → Known (cond b (Leaf c (place + size)) (Refuse why.Short at)) → size ≤ stop - place
@@ -64,7 +65,7 @@ body-there at place size stop c k = of (leb size (stop - place)) refl k
     of false e k = absurd k
 
 module _ (s : List ℕ) (at place size stop : ℕ) (k : Known (textHead at (spelling s place size stop))) where
-  pub text-there : size ≤ stop - place
+  text-there : size ≤ stop - place
   text-there = of (leb size (stop - place)) refl (textOf (take size (drop place s))) k
     where
       of : (b : Bool) → leb size (stop - place) ≡ b → (x : Text) → Known (textHead at (cond b (spelled place size x) (No why.Short))) → size ≤ stop - place
@@ -111,56 +112,71 @@ module _ (at stop rank size : ℕ) (signed : Bool) (z : size ≡ sizeAt rank) (l
 pub kept : (h : Head) (s table : List ℕ) (row : ℕ) → LeafTried h s table row table 0
 kept h s table row = record { kept = λ e. refl; laid = λ n. absurd (n refl) }
 
--- the row q of the leaf c is laid, and the leaf ends at a place that is not 0
+-- the row q of the leaf c is laid
 laid : (h : Head) (s table : List ℕ) (row : ℕ) (table' : List ℕ) (next : ℕ) (c : Content) (q : Row) → h ≡ Leaf c next → q ≡ leafRow (leafOwn s c) row
-    → table' ≡ sets table (wordsPerRow * row) (wordsOf q) → 0 < next → LeafTried h s table row table' next
-laid h s table row table' next c q e w f p =
-    record {
-      kept = λ z. absurd (let n : ⊥ = omega arith in n);
-      laid = λ z. record { content = c; is = e; put = f ∙ ap (λ (x : Row). sets table (wordsPerRow * row) (wordsOf x)) w };
-    }
+    → table' ≡ sets table (wordsPerRow * row) (wordsOf q) → LeafLaid h s table row table' next
+laid h s table row table' next c q e w f = record { content = c; is = e; put = f ∙ ap (λ (x : Row). sets table (wordsPerRow * row) (wordsOf x)) w }
 
--- what another head of the same place was tried for
-pub tried-as : (h h' : Head) (s table : List ℕ) (row : ℕ) (table' : List ℕ) (r : ℕ) → h ≡ h' → LeafTried h s table row table' r → LeafTried h' s table row table' r
-tried-as h h' s table row table' r e t = subst (λ (x : Head). LeafTried x s table row table' r) e t
+-- the same head, said otherwise
+laid-as : (h h' : Head) (s table : List ℕ) (row : ℕ) (table' : List ℕ) (r : ℕ) → h ≡ h' → LeafLaid h s table row table' r → LeafLaid h' s table row table' r
+laid-as h h' s table row table' r e t = subst (λ (x : Head). LeafLaid x s table row table' r) e t
+
+-- what stands at `at` is laid: it ends behind its place, so not at 0
+pub tried : (h : Head) (s : List ℕ) (at stop : ℕ) (table : List ℕ) (row : ℕ) (table' : List ℕ) (r : ℕ) → h ≡ headAt s at stop
+    → LeafLaid h s table row table' r → LeafTried (headAt s at stop) s table row table' r
+tried h s at stop table row table' r e t =
+    record {
+      kept = λ z. absurd (let n : ⊥ = omega (arith, leaf-after s at stop h e (t .content) r (t .is)) in n);
+      laid = λ z. laid-as h (headAt s at stop) s table row table' r e t;
+    }
 
 module _ (s table : List ℕ) (at row : ℕ) (table' : List ℕ) (q : Row) (f : table' ≡ sets table (wordsPerRow * row) (wordsOf q)) where
   -- a text, or a binary
-  module _ (place size stop : ℕ) (l : at < place) where
+  module _ (place size stop : ℕ) where
     pub text-laid : Known (textHead at (spelling s place size stop)) → q ≡ leafRow (spanOwn kindText place size) row
-        → LeafTried (textHead at (spelling s place size stop)) s table row table' (place + size)
+        → LeafLaid (textHead at (spelling s place size stop)) s table row table' (place + size)
     text-laid k r =
         laid (textHead at (spelling s place size stop)) s table row table' (place + size) (Span kindText place size) q
-        (text-known s at place size stop k) (span-row s (Span kindText place size) row q kindText place size refl r) f (omega arith)
+        (text-known s at place size stop k) (span-row s (Span kindText place size) row q kindText place size refl r) f
 
     pub binary-laid : Known (bodied at (Span kindBinary place size) place size stop) → q ≡ leafRow (spanOwn kindBinary place size) row
-        → LeafTried (bodied at (Span kindBinary place size) place size stop) s table row table' (place + size)
+        → LeafLaid (bodied at (Span kindBinary place size) place size stop) s table row table' (place + size)
     binary-laid k r =
         laid (bodied at (Span kindBinary place size) place size stop) s table row table' (place + size) (Span kindBinary place size) q
         (sym (positions.body-there at place size stop (Span kindBinary place size) (body-there at place size stop (Span kindBinary place size) k)))
-        (span-row s (Span kindBinary place size) row q kindBinary place size refl r) f (omega arith)
+        (span-row s (Span kindBinary place size) row q kindBinary place size refl r) f
 
   pub integer-laid : (stop rank size : ℕ) (signed : Bool) (w : Wide) (kind : ℕ) → at < stop → Known (integerHead at stop rank signed) → size ≡ sizeAt rank
       → w ≡ wideOf (bodyValue signed (take size (drop (at + 1) s))) → kind ≡ integerKind signed (valueOf w)
-      → q ≡ leafRow (integerOwn kind w) row → LeafTried (integerHead at stop rank signed) s table row table' (at + 1 + size)
+      → q ≡ leafRow (integerOwn kind w) row → LeafLaid (integerHead at stop rank signed) s table row table' (at + 1 + size)
   integer-laid stop rank size signed w kind l known z v k r =
       let h : size ≤ stop - (at + 1) = integer-there at stop rank size signed z l known in
       rw (← z) (laid (bodied at (Integer signed (at + 1) size) (at + 1) size stop) s table row table' (at + 1 + size) (Integer signed (at + 1) size) q
       (sym (positions.body-there at (at + 1) size stop (Integer signed (at + 1) size) h))
-      (integer-row s (Integer signed (at + 1) size) row q signed (at + 1) size w kind refl v k r) f (omega arith))
+      (integer-row s (Integer signed (at + 1) size) row q signed (at + 1) size w kind refl v k r) f)
 
-  pub small-laid : (m : ℕ) (w : Wide) → w ≡ wideOf (numberOf (integerSigned .direct) m) → q ≡ leafRow (integerOwn kindSmall w) row
-      → LeafTried (Leaf (Small m) (at + 1)) s table row table' (at + 1)
-  small-laid m w v r =
-      laid (Leaf (Small m) (at + 1)) s table row table' (at + 1) (Small m) q refl (small-row s (Small m) row q m w refl v r) f (omega arith)
+  pub small-laid : (stop m : ℕ) (w : Wide) → Leaf (Small m) (at + 1) ≡ headAt s at stop → w ≡ wideOf (numberOf (integerSigned .direct) m)
+      → q ≡ leafRow (integerOwn kindSmall w) row → LeafLaid (headAt s at stop) s table row table' (at + 1)
+  small-laid stop m w e v r =
+      laid (headAt s at stop) s table row table' (at + 1) (Small m) q (sym e) (small-row s (Small m) row q m w refl v r) f
+
+  pub constant-laid : (stop kind : ℕ) → Leaf (Constant kind) (at + 1) ≡ headAt s at stop → q ≡ leafRow (constantOwn kind) row
+      → LeafLaid (headAt s at stop) s table row table' (at + 1)
+  constant-laid stop kind e r =
+      laid (headAt s at stop) s table row table' (at + 1) (Constant kind) q (sym e) (constant-row s (Constant kind) row q kind refl r) f
 
 -- ---- where it ends
 
 pub not-asked : (h : Head) → LeafAsked h 0
 not-asked h = record { ends = λ n. absurd (n refl) }
 
-asked-as : (h h' : Head) (r : ℕ) → h ≡ h' → LeafAsked h r → LeafAsked h' r
-asked-as h h' r e t = subst (λ (x : Head). LeafAsked x r) e t
+-- what stands at `at`, said otherwise
+module _ (s : List ℕ) (at stop : ℕ) where
+  pub asked-as : (h : Head) (r : ℕ) → LeafAsked h r → h ≡ headAt s at stop → LeafAsked (headAt s at stop) r
+  asked-as h r t e = subst (λ (x : Head). LeafAsked x r) e t
+
+  leaf-asked : (c : Content) (next : ℕ) → Leaf c next ≡ headAt s at stop → LeafAsked (headAt s at stop) next
+  leaf-asked c next e = record { ends = λ n. record { content = c; is = sym e } }
 
 pub text-asked : (s : List ℕ) (at place size stop : ℕ) → size ≤ stop - place → (b : Bool) → b ≡ wellFormed (textOf (take (place + size - place) (drop place s))) → b ≡ true
     → LeafAsked (textHead at (spelling s place size stop)) (place + size)
@@ -183,75 +199,41 @@ body-asked at place size stop c r e = of (leb size (stop - place)) e
 
 module _ (s : List ℕ) (at stop : ℕ) (l : at < stop) (h : stop ≤ length s) where
   module _ (b m : ℕ) (e : m ≡ getD s at 0) (g : b ≡ m) where
-    signed-head : 16 ≤ b → b < 24 → integerHead at stop (b - 16) true ≡ headAt s at stop
+    pub signed-head : 16 ≤ b → b < 24 → integerHead at stop (b - 16) true ≡ headAt s at stop
     signed-head low high = positions.head-signed s at stop l b _ (g ∙ e) low high refl
 
-    unsigned-head : 24 ≤ b → b < 32 → integerHead at stop (b - 24) false ≡ headAt s at stop
+    pub unsigned-head : 24 ≤ b → b < 32 → integerHead at stop (b - 24) false ≡ headAt s at stop
     unsigned-head low high = positions.head-unsigned s at stop l b _ (g ∙ e) low high refl
 
-    small-head : 32 ≤ b → b < 128 → Leaf (Small m) (at + 1) ≡ headAt s at stop
+    pub constant-head : b < 3 → Leaf (Constant (b + 1)) (at + 1) ≡ headAt s at stop
+    constant-head low = positions.head-constant s at stop l b (g ∙ e) low
+
+    pub small-head : 32 ≤ b → b < 128 → Leaf (Small m) (at + 1) ≡ headAt s at stop
     small-head low high = ap (λ (x : ℕ). Leaf (Small x) (at + 1)) e ∙ positions.head-small s at stop l b (g ∙ e) low high
 
-    text-head : 128 ≤ b → b < 160 → textHead at (spelling s (at + 1) (b - 127) stop) ≡ headAt s at stop
+    pub text-head : 128 ≤ b → b < 160 → textHead at (spelling s (at + 1) (b - 127) stop) ≡ headAt s at stop
     text-head low high = positions.head-text s at stop l h b _ (g ∙ e) low high refl
 
-    long-text-head : b ≡ 8 → textHead at (spellingOf s stop (countAt keyLength s (at + 1) stop)) ≡ headAt s at stop
+    pub long-text-head : b ≡ 8 → textHead at (spellingOf s stop (countAt keyLength s (at + 1) stop)) ≡ headAt s at stop
     long-text-head f = positions.head-long-text s at stop l h b _ (g ∙ e) f refl
 
-    binary-head : b ≡ 12 → binaryHead at stop (countAt keyLength s (at + 1) stop) ≡ headAt s at stop
+    pub binary-head : b ≡ 12 → binaryHead at stop (countAt keyLength s (at + 1) stop) ≡ headAt s at stop
     binary-head f = positions.head-binary s at stop l h b _ (g ∙ e) f refl
 
-    -- it is known
-    module _ (k : Known (headAt s at stop)) where
-      pub signed-known : 16 ≤ b → b < 24 → Known (integerHead at stop (b - 16) true)
-      signed-known low high = known-as _ _ (signed-head low high) k
-
-      pub unsigned-known : 24 ≤ b → b < 32 → Known (integerHead at stop (b - 24) false)
-      unsigned-known low high = known-as _ _ (unsigned-head low high) k
-
-      pub text-known-at : 128 ≤ b → b < 160 → Known (textHead at (spelling s (at + 1) (b - 127) stop))
-      text-known-at low high = known-as _ _ (text-head low high) k
-
-      pub long-text-known : b ≡ 8 → Known (textHead at (spellingOf s stop (countAt keyLength s (at + 1) stop)))
-      long-text-known f = known-as _ _ (long-text-head f) k
-
-      pub binary-known : b ≡ 12 → Known (binaryHead at stop (countAt keyLength s (at + 1) stop))
-      binary-known f = known-as _ _ (binary-head f) k
-
-    -- it was laid
-    module _ (table : List ℕ) (row : ℕ) (table' : List ℕ) (r : ℕ) where
-      pub signed-tried : 16 ≤ b → b < 24 → LeafTried (integerHead at stop (b - 16) true) s table row table' r → LeafTried (headAt s at stop) s table row table' r
-      signed-tried low high t = tried-as _ _ s table row table' r (signed-head low high) t
-
-      pub unsigned-tried : 24 ≤ b → b < 32 → LeafTried (integerHead at stop (b - 24) false) s table row table' r → LeafTried (headAt s at stop) s table row table' r
-      unsigned-tried low high t = tried-as _ _ s table row table' r (unsigned-head low high) t
-
-      pub small-tried : 32 ≤ b → b < 128 → LeafTried (Leaf (Small m) (at + 1)) s table row table' r → LeafTried (headAt s at stop) s table row table' r
-      small-tried low high t = tried-as _ _ s table row table' r (small-head low high) t
-
-      pub text-tried : 128 ≤ b → b < 160 → LeafTried (textHead at (spelling s (at + 1) (b - 127) stop)) s table row table' r → LeafTried (headAt s at stop) s table row table' r
-      text-tried low high t = tried-as _ _ s table row table' r (text-head low high) t
-
-      pub long-text-tried : b ≡ 8 → LeafTried (textHead at (spellingOf s stop (countAt keyLength s (at + 1) stop))) s table row table' r → LeafTried (headAt s at stop) s table row table' r
-      long-text-tried f t = tried-as _ _ s table row table' r (long-text-head f) t
-
-      pub binary-tried : b ≡ 12 → LeafTried (binaryHead at stop (countAt keyLength s (at + 1) stop)) s table row table' r → LeafTried (headAt s at stop) s table row table' r
-      binary-tried f t = tried-as _ _ s table row table' r (binary-head f) t
-
     -- its end was asked
-    pub small-asked : 32 ≤ b → b < 128 → LeafAsked (headAt s at stop) (at + 1)
-    small-asked low high = record { ends = λ n. record { content = Small m; is = sym (small-head low high) } }
+    pub constant-asked : b < 3 → LeafAsked (headAt s at stop) (at + 1)
+    constant-asked low = leaf-asked s at stop (Constant (b + 1)) (at + 1) (constant-head low)
 
-    pub text-asked-at : (r : ℕ) → 128 ≤ b → b < 160 → LeafAsked (textHead at (spelling s (at + 1) (b - 127) stop)) r → LeafAsked (headAt s at stop) r
-    text-asked-at r low high t = asked-as _ _ r (text-head low high) t
+    pub small-asked : 32 ≤ b → b < 128 → LeafAsked (headAt s at stop) (at + 1)
+    small-asked low high = leaf-asked s at stop (Small m) (at + 1) (small-head low high)
 
     pub integer-asked : (size r : ℕ) → 16 ≤ b → b < 32 → size ≡ sizeAt (b % 8) → r ≡ endOf (at + 1) size stop → LeafAsked (headAt s at stop) r
     integer-asked size r low high z t =
         either 24 b
         (λ (i : 24 ≤ b). let q : b % 8 ≡ b - 24 = omega arith in
-        asked-as _ _ r (unsigned-head i high) (body-asked at (at + 1) (sizeAt (b - 24)) stop (Integer false (at + 1) (sizeAt (b - 24))) r (t ∙ ap (λ (n : ℕ). endOf (at + 1) n stop) (z ∙ ap sizeAt q))))
+        asked-as s at stop _ r (body-asked at (at + 1) (sizeAt (b - 24)) stop (Integer false (at + 1) (sizeAt (b - 24))) r (t ∙ ap (λ (n : ℕ). endOf (at + 1) n stop) (z ∙ ap sizeAt q))) (unsigned-head i high))
         (λ (i : b < 24). let q : b % 8 ≡ b - 16 = omega arith in
-        asked-as _ _ r (signed-head low i) (body-asked at (at + 1) (sizeAt (b - 16)) stop (Integer true (at + 1) (sizeAt (b - 16))) r (t ∙ ap (λ (n : ℕ). endOf (at + 1) n stop) (z ∙ ap sizeAt q))))
+        asked-as s at stop _ r (body-asked at (at + 1) (sizeAt (b - 16)) stop (Integer true (at + 1) (sizeAt (b - 16))) r (t ∙ ap (λ (n : ℕ). endOf (at + 1) n stop) (z ∙ ap sizeAt q))) (signed-head low i))
 
   -- the length is one byte
   module _ (m : ℕ) (e : m ≡ getD s at 0) (n : ℕ) (c : n ≡ getD s (at + 1) 0) (few : n ≤ 247) (there : at + 2 ≤ stop) (r : ℕ) where
@@ -259,11 +241,11 @@ module _ (s : List ℕ) (at stop : ℕ) (l : at < stop) (h : stop ≤ length s) 
     count = let p : at + 1 + 1 ≡ at + 2 = omega arith in sym (length-one s (at + 1) stop n (omega arith) h c (omega arith)) ∙ ap (Is n) p
 
     pub short-text-asked : m ≡ 8 → LeafAsked (textHead at (spelling s (at + 2) n stop)) r → LeafAsked (headAt s at stop) r
-    short-text-asked g t = asked-as _ _ r (ap (λ (c : Count). textHead at (spellingOf s stop c)) (sym count) ∙ long-text-head m m e refl g) t
+    short-text-asked g t = asked-as s at stop _ r t (ap (λ (c : Count). textHead at (spellingOf s stop c)) (sym count) ∙ long-text-head m m e refl g)
 
     pub short-binary-asked : m ≡ 12 → r ≡ endOf (at + 2) n stop → LeafAsked (headAt s at stop) r
     short-binary-asked g t =
-        asked-as _ _ r (ap (binaryHead at stop) (sym count) ∙ binary-head m m e refl g) (body-asked at (at + 2) n stop (Span kindBinary (at + 2) n) r t)
+        asked-as s at stop _ r (body-asked at (at + 2) n stop (Span kindBinary (at + 2) n) r t) (ap (binaryHead at stop) (sym count) ∙ binary-head m m e refl g)
 
 -- ---- a key
 
@@ -284,25 +266,25 @@ key-asked s at stop n r l h e few w =
 
 -- ---- behind a length
 
-module _ (s : List ℕ) (at stop : ℕ) (c : Count) (e : c ≡ countAt keyLength s (at + 1) stop) (n next : ℕ) (f : c ≡ Is n next) where
-  counted : CountAt (at + 1) stop n next
-  counted = count-at keyLength s (at + 1) stop c e n next f
+module _ (s : List ℕ) (at stop : ℕ) (c : Count) (e : c ≡ countAt keyLength s (at + 1) stop) where
+  -- what is no refusal has a length
+  module _ (y : Refusal) (f : c ≡ Not y) where
+    pub spelt-never : Known (textHead at (spellingOf s stop (countAt keyLength s (at + 1) stop))) → ⊥
+    spelt-never k = subst (λ (x : Count). Known (textHead at (spellingOf s stop x))) (sym e ∙ f) k
 
-  pub behind-after : at < next
-  behind-after = omega (arith, counted .after)
+    pub bodied-never : Known (binaryHead at stop (countAt keyLength s (at + 1) stop)) → ⊥
+    bodied-never k = subst (λ (x : Count). Known (binaryHead at stop x)) (sym e ∙ f) k
 
-  pub behind-within : next ≤ stop
-  behind-within = counted .within
+  module _ (n next : ℕ) (f : c ≡ Is n next) where
+    pub spelt-known : Known (textHead at (spellingOf s stop (countAt keyLength s (at + 1) stop))) → Known (textHead at (spelling s next n stop))
+    spelt-known k = subst (λ (x : Count). Known (textHead at (spellingOf s stop x))) (sym e ∙ f) k
 
-  pub spelt-known : Known (textHead at (spellingOf s stop (countAt keyLength s (at + 1) stop))) → Known (textHead at (spelling s next n stop))
-  spelt-known k = subst (λ (x : Count). Known (textHead at (spellingOf s stop x))) (sym e ∙ f) k
+    pub bodied-known : Known (binaryHead at stop (countAt keyLength s (at + 1) stop)) → Known (bodied at (Span kindBinary next n) next n stop)
+    bodied-known k = subst (λ (x : Count). Known (binaryHead at stop x)) (sym e ∙ f) k
 
-  pub bodied-known : Known (binaryHead at stop (countAt keyLength s (at + 1) stop)) → Known (bodied at (Span kindBinary next n) next n stop)
-  bodied-known k = subst (λ (x : Count). Known (binaryHead at stop x)) (sym e ∙ f) k
+    module _ (table : List ℕ) (row : ℕ) (table' : List ℕ) (r : ℕ) where
+      pub spelt-laid : LeafLaid (textHead at (spelling s next n stop)) s table row table' r → LeafLaid (textHead at (spellingOf s stop (countAt keyLength s (at + 1) stop))) s table row table' r
+      spelt-laid t = laid-as _ _ s table row table' r (ap (λ (x : Count). textHead at (spellingOf s stop x)) (sym f ∙ e)) t
 
-  module _ (table : List ℕ) (row : ℕ) (table' : List ℕ) (r : ℕ) where
-    pub spelt-tried : LeafTried (textHead at (spelling s next n stop)) s table row table' r → LeafTried (textHead at (spellingOf s stop (countAt keyLength s (at + 1) stop))) s table row table' r
-    spelt-tried t = tried-as _ _ s table row table' r (ap (λ (x : Count). textHead at (spellingOf s stop x)) (sym f ∙ e)) t
-
-    pub bodied-tried : LeafTried (bodied at (Span kindBinary next n) next n stop) s table row table' r → LeafTried (binaryHead at stop (countAt keyLength s (at + 1) stop)) s table row table' r
-    bodied-tried t = tried-as _ _ s table row table' r (ap (binaryHead at stop) (sym f ∙ e)) t
+      pub bodied-laid : LeafLaid (bodied at (Span kindBinary next n) next n stop) s table row table' r → LeafLaid (binaryHead at stop (countAt keyLength s (at + 1) stop)) s table row table' r
+      bodied-laid t = laid-as _ _ s table row table' r (ap (binaryHead at stop) (sym f ∙ e)) t

@@ -1,4 +1,4 @@
--- Words of the contracts inside: what the row of a leaf asks of the leaf's content, and what laying it does. Definitions only.
+-- Words of the contracts inside: what the row of a leaf asks of the leaf's content, where a leaf or a key ends, and what laying a leaf does. Definitions only.
 use mathlib.Core.Path.{_≡_}
 use mathlib.Core.Bool.{cond}
 use mathlib.Core.List.{List}
@@ -48,7 +48,7 @@ pub record LeafEnds (h : Head) (next : ℕ) : Type 0 where
   pub content : Content
   pub is : h ≡ Leaf content next
 
--- where a body of `size` bytes from `place` on ends, or 0 where it does not end before `stop`
+-- where a body of `size` bytes from `place` on ends, or 0 where it does not end at `stop` or before it
 abbrev pub endOf : ℕ → ℕ → ℕ → ℕ
 endOf place size stop = cond (leb size (stop - place)) (place + size) 0
 

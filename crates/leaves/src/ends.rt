@@ -67,13 +67,16 @@ pub fn end_plain(s: &[u8], at: usize, stop: usize) -> usize
     let marker = s[at];
     let b = heads::index(marker);
     if b < 16 {
+        if b < 3 {
+            return at + 1; // a constant
+        }
         return end_short(s, at, stop, marker);
     }
     if b < 32 {
         return end_body(at + 1, size_at(b % 8), stop);
     }
     if b < 128 {
-        return at + 1;
+        return at + 1; // a small integer
     }
     if b < 160 {
         return end_text(s, at, at + 1, b - 127, stop);

@@ -28,11 +28,11 @@ use Rattle.format.specs.Value.{Reading, right, wrong, Readings, ran, broke, Rea
 use Rattle.format.specs.Answer.{needed, neededFor}
 use Rattle.format.proofs.Steps as clauses
 use Rattle.format.proofs.Heads.{hold-after, declare-after, foreign-after, foreign-within, key-within, leaf-within, refer-within, refuse-place}
-use Rattle.format.proofs.Values.{ReadAt, RunAt, value-read, values-run, values-child, document-read}
+use Rattle.format.proofs.Values.{ReadAt, RunAt, value-read, values-run, values-child, whole-read, document-read}
 use Rattle.heads.proofs.Positions.{head-refer}
 use Rattle.leaves.specs.Contracts.{LeafAsked, KeyAsked}
 use Rattle.measure.specs.Contracts.{ReferAsked, OneRow, Measured, Right, Wrong, measuredOf, measuredAll, harmed, someHarmed, placeIn, rowIn, told, isBroken, numberWrong, placeWrong, refusalOf}
-use Rattle.measure.proofs.Numbers.{told-right, told-wrong, read-little, run-little, ReadRight, read-right, read-wrong}
+use Rattle.measure.proofs.Numbers.{Little, told-right, told-wrong, read-little, run-little, ReadRight, read-right, read-wrong}
 
 -- ---- rows and places stay within the bytes
 
@@ -274,40 +274,67 @@ module _ (s : List ℕ) (d at stop k : ℕ) (c : Children) (count f : ℕ) (chil
         declare-right u r n b b' b″ eu er en eb eb' eb″ v ev =
             ev ∙ ap told (rw eb″ (declaring-right e y (value d s) stop u q r n b b' (rw (eu, eq, eb) all-right) (rw (er, en, eb') last-right)))
 
+-- ---- all the bytes from `at` to `stop`; the number f tells their position
+
+module _ (s : List ℕ) (d k at stop f : ℕ) (read : f ≡ told (measuredOf (value d s k at stop))) (a : at ≤ stop) (l : stop ≤ length s) (big : length s ≤ limit) where
+  abbrev position : Reading
+  position = value d s k at stop
+
+  little : Little (measuredOf position)
+  little = read-little at stop position (value-read d s k at stop) a (omega arith)
+
+  pub whole-refused : 72057594037927936 ≤ f → f ≡ told (measuredOf (whole stop (value d s k at stop)))
+  whole-refused h =
+      let e : measuredOf position ≡ Wrong (refusalOf (numberWrong f)) (placeWrong f) = told-wrong (measuredOf position) f little read h in
+      read ∙ ap told (e ∙ whole-wrong stop position _ _ e)
+
+  module _ (h : f < 72057594037927936) (n : ℕ) (en : n ≡ placeIn f) where
+    value-right : measuredOf position ≡ Right (rowIn f) n (isBroken f)
+    value-right = rw en (told-right (measuredOf position) f little read h)
+
+    pub whole-ended : n ≡ stop → f ≡ told (measuredOf (whole stop (value d s k at stop)))
+    whole-ended i = read ∙ ap told (value-right ∙ whole-right stop position (rowIn f) n (isBroken f) value-right i)
+
+    pub whole-longer : (n ≡ stop → ⊥) → (v : ℕ) → v ≡ told (Wrong why.Extra n) → v ≡ told (measuredOf (whole stop (value d s k at stop)))
+    whole-longer i v e = e ∙ ap told (whole-extra stop position (rowIn f) n (isBroken f) value-right i)
+
+-- a document is all of its bytes
+pub document-whole : (s : List ℕ) (depth f : ℕ) → f ≡ told (measuredOf (whole (length s) (value (depth + 1) s 0 0 (length s)))) → f ≡ told (measuredOf (document depth s))
+unfolding document
+document-whole s depth f e =
+    let g : depth + 1 ≡ suc depth = omega arith in
+    e ∙ ap (λ (d : ℕ). told (measuredOf (whole (length s) (value d s 0 0 (length s))))) g
+
 -- ---- a foreign body, inside which k entries are in force; the number f tells it
 
-module _ (s : List ℕ) (d around k p z : ℕ) (in-force : k ≡ inForeign around) (f : ℕ) (inside : f ≡ told (measuredOf (value d s k p (p + z))))
+module _ (s : List ℕ) (d around k p z : ℕ) (in-force : k ≡ inForeign around) (f : ℕ) (inside : f ≡ told (measuredOf (whole (p + z) (value d s k p (p + z)))))
     (l : p + z ≤ length s) (big : length s ≤ limit) where
-  abbrev inner : Reading
-  inner = value d s (inForeign around) p (p + z)
-
   abbrev body : Reading
-  body = whole (p + z) inner
+  body = whole (p + z) (value d s (inForeign around) p (p + z))
 
-  read : f ≡ told (measuredOf inner)
-  read = rw in-force at inside
+  there : f ≡ told (measuredOf body)
+  there = rw in-force at inside
+
+  body-read : ReadAt p (p + z) body
+  body-read = whole-read p (p + z) (value d s (inForeign around) p (p + z)) (value-read d s (inForeign around) p (p + z))
+
+  low : Little (measuredOf body)
+  low = read-little p (p + z) body body-read (omega arith) (omega arith)
 
   pub frame-wrong : 72057594037927936 ≤ f → (v : ℕ) → v ≡ told (Right 1 (p + z) true) → v ≡ told (measuredOf (framed p z body))
-  frame-wrong h v e =
-      e ∙ ap told (framed-wrong p z body _ _ (sym (whole-wrong (p + z) inner _ _
-      (told-wrong (measuredOf inner) f (read-little p (p + z) inner (value-read d s (inForeign around) p (p + z)) (omega arith) (omega arith)) read h))))
+  frame-wrong h v e = e ∙ ap told (framed-wrong p z body _ _ (told-wrong (measuredOf body) f low there h))
 
   module _ (h : f < 72057594037927936) where
-    body-right : measuredOf inner ≡ Right (rowIn f) (placeIn f) (isBroken f)
-    body-right = told-right (measuredOf inner) f (read-little p (p + z) inner (value-read d s (inForeign around) p (p + z)) (omega arith) (omega arith)) read h
+    body-right : measuredOf body ≡ Right (rowIn f) (placeIn f) (isBroken f)
+    body-right = told-right (measuredOf body) f low there h
 
     pub frame-few : 0 < p → (r : ℕ) → r ≡ rowIn f → 1 + r ≤ limit
     frame-few pos r er =
-        let b : (p + rowIn f ≤ placeIn f) × (placeIn f ≤ p + z) = read-bound p (p + z) inner (value-read d s (inForeign around) p (p + z)) (rowIn f) (placeIn f) (isBroken f) body-right in
+        let b : (p + rowIn f ≤ placeIn f) × (placeIn f ≤ p + z) = read-bound p (p + z) body body-read (rowIn f) (placeIn f) (isBroken f) body-right in
         omega (arith, b .0, b .1)
 
-    pub frame-right : (q r : ℕ) (b : Bool) → q ≡ placeIn f → q ≡ p + z → r ≡ rowIn f → b ≡ isBroken f → (v : ℕ) → v ≡ told (Right (1 + r) (p + z) b)
-        → v ≡ told (measuredOf (framed p z body))
-    frame-right q r b eq g er eb v e = e ∙ ap told (framed-right p z body r q b (sym (whole-right (p + z) inner r q b (rw (er, eq, eb) body-right) g)))
-
-    pub frame-extra : (q : ℕ) → q ≡ placeIn f → (q ≡ p + z → ⊥) → (v : ℕ) → v ≡ told (Right 1 (p + z) true) → v ≡ told (measuredOf (framed p z body))
-    frame-extra q eq g v e =
-        e ∙ ap told (framed-wrong p z body why.Extra q (sym (whole-extra (p + z) inner (rowIn f) q (isBroken f) (rw eq body-right) g)))
+    pub frame-right : (r : ℕ) (b : Bool) → r ≡ rowIn f → b ≡ isBroken f → (v : ℕ) → v ≡ told (Right (1 + r) (p + z) b) → v ≡ told (measuredOf (framed p z body))
+    frame-right r b er eb v e = e ∙ ap told (framed-right p z body r (placeIn f) b (rw (er, eb) body-right))
 
 -- ---- one child
 
@@ -472,34 +499,6 @@ module _ (s : List ℕ) (d : ℕ) (c : Children) (k count at stop i rows place :
       let one : Reading = child c (value d s) s k i place stop in
       kept-on s d c k count at stop i rows place broken kept turn r n b
       (rw (er, en, eb) (told-right (measuredOf one) f (read-little place stop one (values-child d c s k i place stop) (kept .within) (omega arith)) read h)) b' eb'
-
--- ---- a whole document; the number f tells its position
-
-module _ (s : List ℕ) (depth f : ℕ) (read : f ≡ told (measuredOf (value (depth + 1) s 0 0 (length s)))) (big : length s ≤ limit) where
-  abbrev position : Reading
-  position = value (suc depth) s 0 0 (length s)
-
-  level : f ≡ told (measuredOf position)
-  level = let e : depth + 1 ≡ suc depth = omega arith in read ∙ ap (λ (d : ℕ). told (measuredOf (value d s 0 0 (length s)))) e
-
-  pub document-wrong : 72057594037927936 ≤ f → f ≡ told (measuredOf (document depth s))
-  unfolding document
-  document-wrong h =
-      let e : measuredOf position ≡ Wrong (refusalOf (numberWrong f)) (placeWrong f) =
-      told-wrong (measuredOf position) f (read-little 0 (length s) position (value-read (suc depth) s 0 0 (length s)) (omega arith) big) level h in
-      level ∙ ap told (e ∙ whole-wrong (length s) position _ _ e)
-
-  module _ (h : f < 72057594037927936) (n : ℕ) (en : n ≡ placeIn f) where
-    value-right : measuredOf position ≡ Right (rowIn f) n (isBroken f)
-    value-right = rw en (told-right (measuredOf position) f (read-little 0 (length s) position (value-read (suc depth) s 0 0 (length s)) (omega arith) big) level h)
-
-    pub document-right : n ≡ length s → f ≡ told (measuredOf (document depth s))
-    unfolding document
-    document-right i = level ∙ ap told (value-right ∙ whole-right (length s) position (rowIn f) n (isBroken f) value-right i)
-
-    pub document-extra : (n ≡ length s → ⊥) → (v : ℕ) → v ≡ told (Wrong why.Extra n) → v ≡ told (measuredOf (document depth s))
-    unfolding document
-    document-extra i v e = e ∙ ap told (whole-extra (length s) position (rowIn f) n (isBroken f) value-right i)
 
 -- ---- what a caller is told by name; the number f tells the document
 

@@ -13,26 +13,16 @@ pub mod told;
 mod value;
 
 pub use format::Needed;
-use format::Refusal;
 use rows::Row;
 use told::WRONG;
-pub use value::measure_value;
+pub use value::measure_whole;
 
 // A whole document whose positions nest to `depth`.
 pub fn measure_document(s: &[u8], depth: usize) -> usize
     requires { ⌜ (depth ≤ depthLimit) × (length (now s) ≤ limit) ⌝ }
     ensures { λ r. ⌜ r ≡ told (measuredOf (document depth (now (s .entry)))) ⌝ }
 {
-    let stop = s.len();
-    let f = measure_value(s, 0, stop, depth + 1, 0);
-    if WRONG <= f {
-        return f;
-    }
-    let next = told::place_in(f);
-    if next == stop {
-        return f;
-    }
-    told::wrong(Refusal::Extra, next)
+    measure_whole(s, 0, s.len(), depth + 1, 0)
 }
 
 // The same for a caller who is told by name.

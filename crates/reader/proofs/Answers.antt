@@ -1,28 +1,32 @@
 -- The answer and the table afterwards, by each way out of filling; and that two answers allowed are equal. Assumes nothing.
-use mathlib.Core.Path.{_≡_, _∙_, sym, ap, ap₂, subst, refl}
+use mathlib.Core.Path.{_≡_, _∙_, sym, ap, ap₂, subst}
 use mathlib.Core.Bool.{Bool, true, false}
 use mathlib.Core.List.{List, []}
-use Prim.Native.Nat.{ℕ, _+_, _≤_, _<_}
+use Prim.Native.Nat.{ℕ, _*_, _^_, _≤_, _<_}
 use native.Mathlib.Omega.{arith}
+use mir.Syntax.{w64}
+use mir.Val.{Fits}
 use lib.ListN.{length}
 use lib.Seq.{sets}
 use lib.Dec.{leb}
 use borrow.Author.Tests.{le-leb, lt-leb}
 use Rattle.lists.specs.Zeroed.{zeroed}
 use Rattle.wide.proofs.Families.{cond-yes, cond-no}
-use Rattle.rows.specs.Table.{lent, limit}
+use Rattle.rows.specs.Table.{wordsPerRow, lent, limit}
 use Rattle.format.specs.declared.answer.Answer.{Answer}
 use Rattle.format.specs.declared.answer.Answer.the-variants.{Accepted, TooLong, Refused, Full}
 use Rattle.format.specs.declared.refusal.Refusal.{Refusal}
 use Rattle.format.specs.Tree.{size}
-use Rattle.format.specs.Value.{Reading, right, wrong, document}
+use Rattle.format.specs.Value.{Reading, wrong, document}
 use Rattle.format.specs.Layout.{layout}
 use Rattle.format.specs.Answer.{answerFor, answer, filled, tableAfter}
+use Rattle.format.proofs.Layouts.{length-layout}
 use Rattle.format.proofs.Values.{document-read, document-rows}
 use Rattle.measure.specs.Contracts.{measuredOf, rowIn, told, isBroken, numberWrong, placeWrong, refusalOf}
 use Rattle.measure.proofs.Numbers.{ReadRight, read-right, read-wrong}
 use Rattle.registry.proofs.Walks.{based-plain, below-none}
 use Rattle.laying.specs.Contracts.{Right, treeRead, Ready}
+use Rattle.reader.proofs.Zeros.{front-zeros}
 
 module _ (depth : ℕ) (s table : List ℕ) where
   pub too-long : limit < length s → TooLong ≡ answer depth s table
@@ -91,14 +95,28 @@ module _ (depth : ℕ) (s table : List ℕ) where
               sure = λ e. is-right .broken ∙ sym eb ∙ e;
             })
 
-        pub accepted : Accepted needed ≡ answer depth s table
-        accepted = ap Accepted (sym count) ∙ sym (cond-yes (leb (size (is-right .tree)) (lent table)) _ _ enough) ∙ says _ (is-right .is)
+        -- its rows are laid
+        module _ (used : ℕ) (eu : used ≡ size (treeRead (document depth s))) where
+          used-is : used ≡ size (is-right .tree)
+          unfolding treeRead
+          used-is = eu ∙ ap (λ (x : Reading). size (treeRead x)) (is-right .is)
 
-        pub accepted-rows : (table' : List ℕ) → table' ≡ sets (zeroed 0 table) 0 (layout (treeRead (document depth s)) 0 []) → table' ≡ tableAfter depth s table
-        unfolding treeRead
-        accepted-rows table' e =
-            e ∙ ap (λ (x : Reading). sets (zeroed 0 table) 0 (layout (treeRead x) 0 [])) (is-right .is)
-            ∙ sym (cond-yes (leb (size (is-right .tree)) (lent table)) _ _ enough) ∙ holds _ (is-right .is)
+          pub used-fits : length table < 2 ^ 64 → Fits w64 (wordsPerRow * used)
+          used-fits h = omega (arith, used-is, count)
+
+          pub accepted : Accepted used ≡ answer depth s table
+          accepted = ap Accepted used-is ∙ sym (cond-yes (leb (size (is-right .tree)) (lent table)) _ _ enough) ∙ says _ (is-right .is)
+
+          pub accepted-rows : (table₁ : List ℕ) → table₁ ≡ sets table 0 (layout (treeRead (document depth s)) 0 [])
+              → (table' : List ℕ) → table' ≡ zeroed (wordsPerRow * used) table₁ → table' ≡ tableAfter depth s table
+          unfolding treeRead
+          accepted-rows table₁ e table' z =
+              let ws : List ℕ = layout (is-right .tree) 0 [] in
+              let n : length ws ≡ wordsPerRow * size (is-right .tree) = length-layout (is-right .tree) 0 [] in
+              let u : wordsPerRow * used ≡ length ws = omega (arith, n, used-is) in
+              let w : table₁ ≡ sets table 0 ws = e ∙ ap (λ (x : Reading). sets table 0 (layout (treeRead x) 0 [])) (is-right .is) in
+              z ∙ cc (u, w) ∙ front-zeros table ws (omega (arith, n, count))
+              ∙ sym (cond-yes (leb (size (is-right .tree)) (lent table)) _ _ enough) ∙ holds _ (is-right .is)
 
 -- ---- one answer
 

@@ -1,33 +1,16 @@
 // Fills a lent table from a document: the document is measured whole first, so that no row is laid on hope.
 ghost use mathlib.Core.Path.{_≡_};
-ghost use mathlib.Core.List.{[]};
 ghost use Prim.Native.Nat.{_≤_};
 ghost use lib.ListN.{length};
-ghost use lib.Seq.{sets};
-ghost use Rattle.lists.specs.Zeroed.{zeroed};
 ghost use Rattle.rows.specs.Table.{limit};
 ghost use Rattle.format.specs.Value.{document};
-ghost use Rattle.format.specs.Layout.{layout};
 ghost use Rattle.format.specs.Answer.{depthLimit, answer, tableAfter};
 ghost use Rattle.measure.specs.Contracts.{measuredOf, told};
-ghost use Rattle.laying.specs.Contracts.{Ready, treeRead};
 pub use format::Answer;
 use measure::told;
 use rows::Row;
 
-// The rows of a document that is right, where they are lent, and zeros behind them.
-fn lay_document(data: &[u8], table: &mut [u32], depth: usize, doubt: bool)
-    requires { ⌜ Ready (document depth (now «data»)) doubt (now table) 0 0 0 ⌝ }
-    requires { ⌜ (depth ≤ depthLimit) × (length (now «data») ≤ limit) ⌝ }
-    ensures { λ _. ⌜ now (table .exit) ≡ sets (zeroed 0 (now (table .entry))) 0 (layout (treeRead (document depth (now («data» .entry)))) 0 []) ⌝ }
-{
-    let stop = data.len();
-    let f = laying::lay_value(table, data, 0, stop, depth + 1, 0, 0, 0, doubt);
-    let used = told::row_in(f);
-    rows::zero_from(table, Row::WORDS * used);
-}
-
-// By what was measured: zeros, or the rows.
+// By what was measured: zeros, or the rows and zeros behind them.
 fn fill_measured(data: &[u8], table: &mut [u32], depth: usize, measured: usize) -> Answer
     requires { ⌜ measured ≡ told (measuredOf (document depth (now «data»))) ⌝ }
     requires { ⌜ (depth ≤ depthLimit) × (length (now «data») ≤ limit) ⌝ }
@@ -42,12 +25,14 @@ fn fill_measured(data: &[u8], table: &mut [u32], depth: usize, measured: usize) 
         };
     }
     let needed = told::row_in(measured);
-    if rows::lent(table) < needed {
-        rows::zero_from(table, 0);
-        return Answer::Full { needed };
+    if needed <= rows::lent(table) {
+        let used = laying::lay_document(table, data, depth, told::is_broken(measured));
+        let behind = Row::WORDS * used;
+        rows::zero_from(table, behind);
+        return Answer::Accepted { rows: used };
     }
-    lay_document(data, table, depth, told::is_broken(measured));
-    Answer::Accepted { rows: needed }
+    rows::zero_from(table, 0);
+    Answer::Full { needed }
 }
 
 // The whole document is measured before a row is laid.

@@ -1,6 +1,6 @@
 -- `reader::fill_measured` meets its contract: two laws of Answers for each way out. Assumes nothing.
 use borrow.Author.Needs.{needs}
-use Rattle.reader.proofs.Answers.{accepted, accepted-rows, full, full-zeros, refused, refused-zeros, rows-lent}
+use Rattle.reader.proofs.Answers.{accepted, accepted-rows, full, full-zeros, refused, refused-zeros, rows-lent, used-fits}
 use Rattle.reader.proofs.fill_measured.Statement.{statement}
 use Rattle.reader.proofs.fill_measured.Tie as tie
 
@@ -16,9 +16,11 @@ fill-measured-spec =
     (λ c κs. search needs)
     (λ c κs. search needs)
     (λ c κs. search needs)
-    (λ c. search needs)
-    (λ c. (search full, search full-zeros))
-    (λ c κs. search needs)
     (λ c κs. (search rows-lent, search needs))
+    (λ c. search used-fits)
+    (λ c κs. search needs)
     (λ c. search needs)
-    (λ c. (search accepted, search accepted-rows)))
+    (λ c. (search accepted, search accepted-rows))
+    (λ c κs. search needs)
+    (λ c. search needs)
+    (λ c. (search full, search full-zeros)))

@@ -1,6 +1,6 @@
 -- `checker::one::check_damaged` meets its contract. Assumes nothing.
 use borrow.Author.Needs.{needs}
-use Rattle.checker.proofs.Leaves.{damaged-whole, damaged-extra, damaged-wrong}
+use Rattle.checker.proofs.Leaves.{damaged-wrong, damaged-right}
 use Rattle.checker.proofs.one.check_damaged.Statement.{statement}
 use Rattle.checker.proofs.one.check_damaged.Tie as tie
 
@@ -8,10 +8,7 @@ returns : tie.Need-returns
 returns c = search damaged-wrong
 
 returns-2 : tie.Need-returns-2
-returns-2 c = search damaged-whole
-
-returns-3 : tie.Need-returns-3
-returns-3 c = search damaged-extra
+returns-2 c = search damaged-right
 
 pub check-damaged-spec : {M : Type 1} → statement M
 check-damaged-spec =
@@ -25,8 +22,4 @@ check-damaged-spec =
     (λ c κs. search needs)
     (λ c κs. search needs)
     returns
-    (λ c κs. search needs)
-    returns-2
-    (λ c κs. search needs)
-    (λ c κs. search needs)
-    returns-3)
+    returns-2)

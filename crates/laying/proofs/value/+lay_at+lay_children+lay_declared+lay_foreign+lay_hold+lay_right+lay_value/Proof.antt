@@ -35,7 +35,6 @@ use Rattle.format.proofs.head.Children.in_force.Reads as in-force-reads
 use Rattle.format.proofs.head.Holder.children.Reads as children-reads
 use Rattle.format.proofs.head.Holder.kind.Reads as kind-reads
 use Rattle.format.proofs.head.Holder.reading.Reads as reading-reads
-use Rattle.format.proofs.refusal.Refusal.number.Reads as number-reads
 use Rattle.heads.proofs.head_at.Reads as head-at-reads
 use Rattle.laying.proofs.one.lay_damaged.Reads as lay-damaged-reads
 use Rattle.laying.proofs.one.lay_leaf.Reads as lay-leaf-reads
@@ -47,7 +46,7 @@ use Rattle.measure.proofs.told.number_in.Reads as number-in-reads
 use Rattle.measure.proofs.told.place_and_row.Reads as place-and-row-reads
 use Rattle.measure.proofs.told.place_in.Reads as place-in-reads
 use Rattle.measure.proofs.told.row_in.Reads as row-in-reads
-use Rattle.measure.proofs.measure_value.Reads as measure-value-reads
+use Rattle.measure.proofs.measure_whole.Reads as measure-whole-reads
 use Rattle.registry.proofs.base_of.Reads as base-of-reads
 use Rattle.rows.proofs.lay.Reads as lay-reads
 use Rattle.rows.proofs.row.Row.declaration.Reads as declaration-reads
@@ -267,20 +266,16 @@ pub +lay-at+lay-children+lay-declared+lay-foreign+lay-hold+lay-right+lay-value-s
     (λ t. lay-foreign-lts.spec (
       in-foreign-reads.Asked,
       in-foreign-reads.Learnt,
-      measure-value-reads.Asked,
-      measure-value-reads.Learnt,
+      measure-whole-reads.Asked,
+      measure-whole-reads.Learnt,
       number-in-reads.Asked,
       number-in-reads.Learnt,
       lay-damaged-reads.Asked,
       lay-damaged-reads.Learnt,
-      place-in-reads.Asked,
-      place-in-reads.Learnt,
       is-broken-reads.Asked,
       is-broken-reads.Learnt,
       lay-right-below t,
       lay-right.Post,
-      number-reads.Asked,
-      number-reads.Learnt,
     )
     (lay-foreign-at t)
     lay-foreign.Post
@@ -292,12 +287,7 @@ pub +lay-at+lay-children+lay-declared+lay-foreign+lay-hold+lay-right+lay-value-s
     (λ c. search needs)
     (λ c. search needs)
     (λ c κs. search needs)
-    (λ c κs. search needs)
     (λ c κs. (search needs, (search lays.body-ready, (search lays.body-right, search needs))))
-    (λ c. search needs)
-    (λ c. search needs)
-    (λ c κs. search needs)
-    (λ c κs. (search needs, (search lays.body-extra, search needs)))
     (λ c. search needs)
     (λ c. search needs)
     (λ c κs. (search needs, (search lays.sure-ready, (search lays.sure-right, search needs))))

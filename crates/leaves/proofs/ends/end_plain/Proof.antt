@@ -1,6 +1,6 @@
 -- `leaves::ends::end_plain` meets its contract: a law of Straight for each way out. Assumes nothing.
 use borrow.Author.Needs.{needs}
-use Rattle.leaves.proofs.Straight.{integer-asked, not-asked, small-asked, text-asked-at}
+use Rattle.leaves.proofs.Straight.{asked-as, constant-asked, integer-asked, not-asked, small-asked, text-head}
 use Rattle.leaves.proofs.ends.end_plain.Statement.{statement}
 use Rattle.leaves.proofs.ends.end_plain.Tie as tie
 
@@ -11,6 +11,8 @@ end-plain-spec =
     (λ c. search not-asked)
     (λ c. search needs)
     (λ c κs. search needs)
+    (λ c. search needs)
+    (λ c. search constant-asked)
     (λ c κs. search needs)
     (λ c. search needs)
     (λ c. search needs)
@@ -22,5 +24,5 @@ end-plain-spec =
     (λ c. search needs)
     (λ c. search needs)
     (λ c κs. search needs)
-    (λ c. search text-asked-at)
+    (λ c. search (asked-as, text-head))
     (λ c. search not-asked))

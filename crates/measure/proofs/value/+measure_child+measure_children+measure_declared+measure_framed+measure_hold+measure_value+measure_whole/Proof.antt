@@ -4,27 +4,30 @@ use Prim.Native.Nat.{ℕ, _+_, _*_, _-_, _<_}
 use borrow.Author.Needs.{needs}
 use Rattle.format.specs.Value.{value}
 use Rattle.format.proofs.Heads.{declare-within, hold-few, hold-within}
-use Rattle.measure.proofs.Measures.{Kept, all-fit, child-key, child-value, children-low, children-stop, declare-few, declare-low, declare-pos, declare-right, declare-wrong, entry-wrong, foreign-inside, foreign-pos, frame-extra, frame-few, frame-right, frame-wrong, hold-pos, hold-right, hold-wrong, holder-few, kept-all, kept-few, kept-first, kept-fits, kept-low, kept-next, kept-one, kept-plus, kept-wrong, leaf-low, refer-low, refuse-low, row-fits, rows-fit, value-declare, value-deep, value-foreign, value-hold, value-leaf, value-no-entry, value-refer, value-refuse}
+use Rattle.measure.proofs.Measures.{Kept, all-fit, child-key, child-value, children-low, children-stop, declare-few, declare-low, declare-pos, declare-right, declare-wrong, entry-wrong, foreign-inside, foreign-pos, frame-few, frame-right, frame-wrong, hold-pos, hold-right, hold-wrong, holder-few, kept-all, kept-few, kept-first, kept-fits, kept-low, kept-next, kept-one, kept-plus, kept-wrong, leaf-low, refer-low, refuse-low, row-fits, rows-fit, value-declare, value-deep, value-foreign, value-hold, value-leaf, value-no-entry, value-refer, value-refuse, whole-ended, whole-longer, whole-refused}
 use borrow.Fn.Kinds.{In}
 use borrow.Fn.PlainCycle.{Measures, is, falls, and}
 use Rattle.measure.proofs.value.measure_child.Reads as measure-child
 use Rattle.measure.proofs.value.measure_child.Kinds as measure-child-kinds
-use Rattle.measure.proofs.value.+measure_child+measure_children+measure_declared+measure_framed+measure_hold+measure_value.Lts-measure_child as measure-child-lts
+use Rattle.measure.proofs.value.+measure_child+measure_children+measure_declared+measure_framed+measure_hold+measure_value+measure_whole.Lts-measure_child as measure-child-lts
 use Rattle.measure.proofs.value.measure_children.Reads as measure-children
 use Rattle.measure.proofs.value.measure_children.Kinds as measure-children-kinds
-use Rattle.measure.proofs.value.+measure_child+measure_children+measure_declared+measure_framed+measure_hold+measure_value.Lts-measure_children as measure-children-lts
+use Rattle.measure.proofs.value.+measure_child+measure_children+measure_declared+measure_framed+measure_hold+measure_value+measure_whole.Lts-measure_children as measure-children-lts
 use Rattle.measure.proofs.value.measure_declared.Reads as measure-declared
 use Rattle.measure.proofs.value.measure_declared.Kinds as measure-declared-kinds
-use Rattle.measure.proofs.value.+measure_child+measure_children+measure_declared+measure_framed+measure_hold+measure_value.Lts-measure_declared as measure-declared-lts
+use Rattle.measure.proofs.value.+measure_child+measure_children+measure_declared+measure_framed+measure_hold+measure_value+measure_whole.Lts-measure_declared as measure-declared-lts
 use Rattle.measure.proofs.value.measure_framed.Reads as measure-framed
 use Rattle.measure.proofs.value.measure_framed.Kinds as measure-framed-kinds
-use Rattle.measure.proofs.value.+measure_child+measure_children+measure_declared+measure_framed+measure_hold+measure_value.Lts-measure_framed as measure-framed-lts
+use Rattle.measure.proofs.value.+measure_child+measure_children+measure_declared+measure_framed+measure_hold+measure_value+measure_whole.Lts-measure_framed as measure-framed-lts
 use Rattle.measure.proofs.value.measure_hold.Reads as measure-hold
 use Rattle.measure.proofs.value.measure_hold.Kinds as measure-hold-kinds
-use Rattle.measure.proofs.value.+measure_child+measure_children+measure_declared+measure_framed+measure_hold+measure_value.Lts-measure_hold as measure-hold-lts
+use Rattle.measure.proofs.value.+measure_child+measure_children+measure_declared+measure_framed+measure_hold+measure_value+measure_whole.Lts-measure_hold as measure-hold-lts
 use Rattle.measure.proofs.value.measure_value.Reads as measure-value
 use Rattle.measure.proofs.value.measure_value.Kinds as measure-value-kinds
-use Rattle.measure.proofs.value.+measure_child+measure_children+measure_declared+measure_framed+measure_hold+measure_value.Lts-measure_value as measure-value-lts
+use Rattle.measure.proofs.value.+measure_child+measure_children+measure_declared+measure_framed+measure_hold+measure_value+measure_whole.Lts-measure_value as measure-value-lts
+use Rattle.measure.proofs.value.measure_whole.Reads as measure-whole
+use Rattle.measure.proofs.value.measure_whole.Kinds as measure-whole-kinds
+use Rattle.measure.proofs.value.+measure_child+measure_children+measure_declared+measure_framed+measure_hold+measure_value+measure_whole.Lts-measure_whole as measure-whole-lts
 use Rattle.format.proofs.in_foreign.Reads as in-foreign-reads
 use Rattle.format.proofs.head.Children.in_force.Reads as in-force-reads
 use Rattle.format.proofs.head.Children.is_key.Reads as is-key-reads
@@ -39,10 +42,10 @@ use Rattle.measure.proofs.told.place_in.Reads as place-in-reads
 use Rattle.measure.proofs.told.right.Reads as right-reads
 use Rattle.measure.proofs.told.row_in.Reads as row-in-reads
 use Rattle.measure.proofs.told.wrong.Reads as wrong-reads
-use Rattle.measure.proofs.value.+measure_child+measure_children+measure_declared+measure_framed+measure_hold+measure_value.{
+use Rattle.measure.proofs.value.+measure_child+measure_children+measure_declared+measure_framed+measure_hold+measure_value+measure_whole.{
   statement,
 }
-use Rattle.measure.proofs.value.+measure_child+measure_children+measure_declared+measure_framed+measure_hold+measure_value.Tie.{
+use Rattle.measure.proofs.value.+measure_child+measure_children+measure_declared+measure_framed+measure_hold+measure_value+measure_whole.Tie.{
   close,
 }
 
@@ -63,6 +66,9 @@ abbrev μ-measure-hold : Measures 1 measure-hold-kinds.ps ℕ
 
 abbrev μ-measure-value : Measures 1 measure-value-kinds.ps ℕ
 μ-measure-value κs a = 4 * a .1 .1 .1 .0
+
+abbrev μ-measure-whole : Measures 1 measure-whole-kinds.ps ℕ
+μ-measure-whole κs a = 4 * a .1 .1 .1 .0 + 1
 
 abbrev measure-child-at : ℕ → In 1 measure-child-kinds.ps
 measure-child-at t =
@@ -148,6 +154,18 @@ measure-value-below t =
     (falls 1 measure-value-kinds.ps _<_ μ-measure-value t)
     measure-value.Pre
 
+abbrev measure-whole-at : ℕ → In 1 measure-whole-kinds.ps
+measure-whole-at t =
+    and 1 measure-whole-kinds.ps (is 1 measure-whole-kinds.ps μ-measure-whole t) measure-whole.Pre
+
+abbrev measure-whole-below : ℕ → In 1 measure-whole-kinds.ps
+measure-whole-below t =
+    and
+    1
+    measure-whole-kinds.ps
+    (falls 1 measure-whole-kinds.ps _<_ μ-measure-whole t)
+    measure-whole.Pre
+
 abbrev measure-children-Inv-loop : measure-children-lts.InvT-loop
 measure-children-Inv-loop s at stop levels around children count i₀ rows₀ place₀ broken₀ i rows place broken =
     Kept (value levels s) children s around count at stop i rows place broken
@@ -156,9 +174,9 @@ abbrev measure-children-μ-loop : measure-children-lts.MeasureT-loop
 measure-children-μ-loop s at stop levels around children count i₀ rows₀ place₀ broken₀ i rows place broken =
     count - i
 
-pub +measure-child+measure-children+measure-declared+measure-framed+measure-hold+measure-value-spec :
+pub +measure-child+measure-children+measure-declared+measure-framed+measure-hold+measure-value+measure-whole-spec :
     {M : Type 1} → statement M
-+measure-child+measure-children+measure-declared+measure-framed+measure-hold+measure-value-spec =
++measure-child+measure-children+measure-declared+measure-framed+measure-hold+measure-value+measure-whole-spec =
     close
     μ-measure-child
     μ-measure-children
@@ -166,6 +184,7 @@ pub +measure-child+measure-children+measure-declared+measure-framed+measure-hold
     μ-measure-framed
     μ-measure-hold
     μ-measure-value
+    μ-measure-whole
     (λ t. measure-child-lts.spec (
       is-key-reads.Asked,
       is-key-reads.Learnt,
@@ -258,12 +277,10 @@ pub +measure-child+measure-children+measure-declared+measure-framed+measure-hold
     (λ t. measure-framed-lts.spec (
       in-foreign-reads.Asked,
       in-foreign-reads.Learnt,
-      measure-value-below t,
-      measure-value.Post,
+      measure-whole-below t,
+      measure-whole.Post,
       right-reads.Asked,
       right-reads.Learnt,
-      place-in-reads.Asked,
-      place-in-reads.Learnt,
       row-in-reads.Asked,
       row-in-reads.Learnt,
       is-broken-reads.Asked,
@@ -277,13 +294,10 @@ pub +measure-child+measure-children+measure-declared+measure-framed+measure-hold
     (λ c κs. search needs)
     (λ c. search frame-wrong)
     (λ c κs. search needs)
-    (λ c κs. search needs)
     (λ c. row-fits _ (c .row-in .result) (c .row-in .ensures))
     (λ c κs. search needs)
     (λ c κs. search (needs, frame-few))
-    (λ c. search frame-right)
-    (λ c κs. search needs)
-    (λ c. search frame-extra))
+    (λ c. search frame-right))
     (λ t. measure-hold-lts.spec (
       children-reads.Asked,
       children-reads.Learnt,
@@ -312,7 +326,7 @@ pub +measure-child+measure-children+measure-declared+measure-framed+measure-hold
     (λ c κs. search needs)
     (λ c κs. search (needs, children-low, holder-few))
     (λ c. search hold-right))
-    λ t. measure-value-lts.spec (
+    (λ t. measure-value-lts.spec (
       wrong-reads.Asked,
       wrong-reads.Learnt,
       head-at-reads.Asked,
@@ -353,4 +367,20 @@ pub +measure-child+measure-children+measure-declared+measure-framed+measure-hold
     (λ c. search value-refuse)
     (λ c. search value-hold)
     (λ c. search value-declare)
-    (λ c. search value-foreign)
+    (λ c. search value-foreign))
+    λ t. measure-whole-lts.spec (
+      measure-value-below t,
+      measure-value.Post,
+      place-in-reads.Asked,
+      place-in-reads.Learnt,
+      wrong-reads.Asked,
+      wrong-reads.Learnt,
+    )
+    (measure-whole-at t)
+    measure-whole.Post
+    (λ c κs. search needs)
+    (λ c. search whole-refused)
+    (λ c κs. search needs)
+    (λ c. search whole-ended)
+    (λ c κs. search needs)
+    (λ c. search whole-longer)
