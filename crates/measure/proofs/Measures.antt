@@ -6,9 +6,12 @@ use Prim.Native.Nat.{ℕ, suc, _+_, _-_, _≤_, _<_}
 use native.Mathlib.Omega.{arith}
 use native.Mathlib.Nat.{zero-add, add-zero, sub-zero, add-assoc}
 use lib.ListN.{length, getD}
-use borrow.Author.Tests.{eq-eqb, ne-eqb, le-leb, lt-leb}
+use lib.Dec.{eqb}
+use borrow.Author.Tests.{eq-eqb, ne-eqb, eqb-true, le-leb, lt-leb}
 use mir.Syntax.{w64}
 use mir.Val.{Fits}
+use Rattle.wide.proofs.Numbers.{either}
+use Rattle.wide.proofs.Ranks.{bool-case}
 use Rattle.rows.specs.Table.{Own, limit}
 use Rattle.rows.specs.Kinds.{holderOwn, referenceOwn}
 use Rattle.format.specs.declared.refusal.Refusal.{Refusal}
@@ -31,7 +34,7 @@ use Rattle.format.proofs.Heads.{hold-after, declare-after, foreign-after, forei
 use Rattle.format.proofs.Values.{ReadAt, RunAt, value-read, values-run, values-child, whole-read, document-read}
 use Rattle.heads.proofs.Positions.{head-refer}
 use Rattle.leaves.specs.Contracts.{LeafAsked, KeyAsked}
-use Rattle.measure.specs.Contracts.{ReferAsked, OneRow, Measured, Right, Wrong, measuredOf, measuredAll, harmed, someHarmed, placeIn, rowIn, told, isBroken, numberWrong, placeWrong, refusalOf}
+use Rattle.measure.specs.Contracts.{ReferAsked, OneRow, Measured, Right, Wrong, measuredOf, measuredAll, harmed, someHarmed, placeIn, rowIn, told, isBroken, numberWrong, placeWrong, refusalOf, endedAt}
 use Rattle.measure.proofs.Numbers.{Little, told-right, told-wrong, read-little, run-little, ReadRight, read-right, read-wrong}
 
 -- ---- rows and places stay within the bytes
@@ -274,29 +277,37 @@ module _ (s : List ℕ) (d at stop k : ℕ) (c : Children) (count f : ℕ) (chil
         declare-right u r n b b' b″ eu er en eb eb' eb″ v ev =
             ev ∙ ap told (rw eb″ (declaring-right e y (value d s) stop u q r n b b' (rw (eu, eq, eb) all-right) (rw (er, en, eb') last-right)))
 
--- ---- all the bytes from `at` to `stop`; the number f tells their position
+-- ---- all the bytes from `at` to `stop`; the number f tells the position at their front, and g all of them
 
-module _ (s : List ℕ) (d k at stop f : ℕ) (read : f ≡ told (measuredOf (value d s k at stop))) (a : at ≤ stop) (l : stop ≤ length s) (big : length s ≤ limit) where
-  abbrev position : Reading
-  position = value d s k at stop
+ended-told : (at stop : ℕ) (x : Reading) → ReadAt at stop x → at ≤ stop → stop ≤ limit → (f : ℕ) → f ≡ told (measuredOf x) → (g : ℕ) → g ≡ endedAt stop f → g ≡ told (measuredOf (whole stop x))
+unfolding endedAt
+ended-told at stop x k a l f e g q =
+    either 72057594037927936 f refused (λ (h : f < 72057594037927936). bool-case (eqb (placeIn f) stop) (λ b. ends h (eqb-true (placeIn f) stop b)) (λ b. longer h (λ i. apart (sym (eq-eqb (placeIn f) stop i) ∙ b))))
+  where
+    apart : true ≡ false → ⊥
+    apart e = absurd (let z : _≡_ {A = ℕ} 0 1 = cc in omega arith)
 
-  little : Little (measuredOf position)
-  little = read-little at stop position (value-read d s k at stop) a (omega arith)
+    small : Little (measuredOf x)
+    small = read-little at stop x k a l
 
-  pub whole-refused : 72057594037927936 ≤ f → f ≡ told (measuredOf (whole stop (value d s k at stop)))
-  whole-refused h =
-      let e : measuredOf position ≡ Wrong (refusalOf (numberWrong f)) (placeWrong f) = told-wrong (measuredOf position) f little read h in
-      read ∙ ap told (e ∙ whole-wrong stop position _ _ e)
+    refused : 72057594037927936 ≤ f → g ≡ told (measuredOf (whole stop x))
+    refused h =
+        let m : measuredOf x ≡ Wrong (refusalOf (numberWrong f)) (placeWrong f) = told-wrong (measuredOf x) f small e h in
+        q ∙ rw (le-leb 72057594037927936 f h) (e ∙ ap told (m ∙ whole-wrong stop x _ _ m))
 
-  module _ (h : f < 72057594037927936) (n : ℕ) (en : n ≡ placeIn f) where
-    value-right : measuredOf position ≡ Right (rowIn f) n (isBroken f)
-    value-right = rw en (told-right (measuredOf position) f little read h)
+    ends : f < 72057594037927936 → placeIn f ≡ stop → g ≡ told (measuredOf (whole stop x))
+    ends h i =
+        let m : measuredOf x ≡ Right (rowIn f) (placeIn f) (isBroken f) = told-right (measuredOf x) f small e h in
+        q ∙ rw (lt-leb 72057594037927936 f h, eq-eqb (placeIn f) stop i) (e ∙ ap told (m ∙ whole-right stop x (rowIn f) (placeIn f) (isBroken f) m i))
 
-    pub whole-ended : n ≡ stop → f ≡ told (measuredOf (whole stop (value d s k at stop)))
-    whole-ended i = read ∙ ap told (value-right ∙ whole-right stop position (rowIn f) n (isBroken f) value-right i)
+    longer : f < 72057594037927936 → (placeIn f ≡ stop → ⊥) → g ≡ told (measuredOf (whole stop x))
+    longer h i =
+        let m : measuredOf x ≡ Right (rowIn f) (placeIn f) (isBroken f) = told-right (measuredOf x) f small e h in
+        q ∙ rw (lt-leb 72057594037927936 f h, ne-eqb (placeIn f) stop i) (ap told (whole-extra stop x (rowIn f) (placeIn f) (isBroken f) m i))
 
-    pub whole-longer : (n ≡ stop → ⊥) → (v : ℕ) → v ≡ told (Wrong why.Extra n) → v ≡ told (measuredOf (whole stop (value d s k at stop)))
-    whole-longer i v e = e ∙ ap told (whole-extra stop position (rowIn f) n (isBroken f) value-right i)
+pub whole-told : (s : List ℕ) (d k at stop f : ℕ) → f ≡ told (measuredOf (value d s k at stop)) → at ≤ stop → stop ≤ length s → length s ≤ limit
+    → (g : ℕ) → g ≡ endedAt stop f → g ≡ told (measuredOf (whole stop (value d s k at stop)))
+whole-told s d k at stop f e a l big g q = ended-told at stop (value d s k at stop) (value-read d s k at stop) a (omega arith) f e g q
 
 -- a document is all of its bytes
 pub document-whole : (s : List ℕ) (depth f : ℕ) → f ≡ told (measuredOf (whole (length s) (value (depth + 1) s 0 0 (length s)))) → f ≡ told (measuredOf (document depth s))
@@ -307,13 +318,13 @@ document-whole s depth f e =
 
 -- ---- a foreign body, inside which k entries are in force; the number f tells it
 
-module _ (s : List ℕ) (d around k p z : ℕ) (in-force : k ≡ inForeign around) (f : ℕ) (inside : f ≡ told (measuredOf (whole (p + z) (value d s k p (p + z)))))
-    (l : p + z ≤ length s) (big : length s ≤ limit) where
+module _ (s : List ℕ) (d around k p z : ℕ) (in-force : k ≡ inForeign around) (m : ℕ) (inner : m ≡ told (measuredOf (value d s k p (p + z))))
+    (l : p + z ≤ length s) (big : length s ≤ limit) (f : ℕ) (inside : f ≡ endedAt (p + z) m) where
   abbrev body : Reading
   body = whole (p + z) (value d s (inForeign around) p (p + z))
 
   there : f ≡ told (measuredOf body)
-  there = rw in-force at inside
+  there = rw in-force at (whole-told s d k p (p + z) m inner (omega arith) l big f inside)
 
   body-read : ReadAt p (p + z) body
   body-read = whole-read p (p + z) (value d s (inForeign around) p (p + z)) (value-read d s (inForeign around) p (p + z))

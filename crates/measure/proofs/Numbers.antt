@@ -4,7 +4,7 @@ use mathlib.Core.Bool.{Bool, true, false}
 use Prim.Native.Nat.{ℕ, _+_, _*_, _/_, _%_, _≤_, _<_}
 use native.Mathlib.Omega.{arith}
 use native.Mathlib.Nat.{add-zero}
-use borrow.Author.Tests.{le-leb, lt-leb}
+use borrow.Author.Tests.{le-leb, lt-leb, eq-eqb, ne-eqb}
 use mir.Syntax.{w64}
 use mir.Val.{Fits}
 use Rattle.rows.specs.Table.{limit}
@@ -14,7 +14,7 @@ use Rattle.format.specs.Refusal.{refusalNumber}
 use Rattle.format.specs.Tree.{Tree, size}
 use Rattle.format.specs.Value.{Reading, right, wrong, Readings, ran, broke}
 use Rattle.format.proofs.Values.{ReadAt, RunAt, verdict-low, verdict-high}
-use Rattle.measure.specs.Contracts.{Measured, Right, Wrong, measuredOf, measuredAll, harmed, placeAndRow, placeIn, rowIn, told, isBroken, numberWrong, placeWrong, refusalOf}
+use Rattle.measure.specs.Contracts.{Measured, Right, Wrong, measuredOf, measuredAll, harmed, placeAndRow, placeIn, rowIn, told, isBroken, numberWrong, placeWrong, refusalOf, endedAt}
 
 -- its numbers are within the limit
 abbrev pub Little : Measured → Type 0
@@ -89,6 +89,20 @@ module _ (e : Refusal) (p v : ℕ) (is : v ≡ refusalNumber e) where
 
   pub wrong-fits : p ≤ limit → Fits w64 (p + 72057594037927936 * v)
   wrong-fits l = omega (arith, verdict-high e)
+
+module _ (f stop : ℕ) where
+  pub end-refused : 72057594037927936 ≤ f → f ≡ endedAt stop f
+  unfolding endedAt
+  end-refused h = rw (le-leb 72057594037927936 f h)
+
+  module _ (h : f < 72057594037927936) (n : ℕ) (en : n ≡ placeIn f) where
+    pub end-there : n ≡ stop → f ≡ endedAt stop f
+    unfolding endedAt
+    end-there i = rw (lt-leb 72057594037927936 f h, eq-eqb (placeIn f) stop (sym en ∙ i))
+
+    pub end-longer : (n ≡ stop → ⊥) → (v : ℕ) → v ≡ told (Wrong why.Extra n) → v ≡ endedAt stop f
+    unfolding endedAt
+    end-longer i v e = rw (lt-leb 72057594037927936 f h, ne-eqb (placeIn f) stop (λ q. i (en ∙ q))) (e ∙ ap (λ (p : ℕ). told (Wrong why.Extra p)) en)
 
 -- ---- of a reading
 

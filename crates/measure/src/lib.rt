@@ -3,7 +3,7 @@ ghost use mathlib.Core.Path.{_≡_};
 ghost use Prim.Native.Nat.{_≤_};
 ghost use lib.ListN.{length};
 ghost use Rattle.rows.specs.Table.{limit};
-ghost use Rattle.format.specs.Value.{document};
+ghost use Rattle.format.specs.Value.{value, whole, document};
 ghost use Rattle.format.specs.Answer.{depthLimit, needed};
 ghost use Rattle.measure.specs.Contracts.{measuredOf, told};
 
@@ -15,7 +15,15 @@ mod value;
 pub use format::Needed;
 use rows::Row;
 use told::WRONG;
-pub use value::measure_whole;
+use value::measure_value;
+
+// All the bytes from `at` to `stop`, as of a document or of a foreign body: one value position, and nothing behind it.
+pub fn measure_whole(s: &[u8], at: usize, stop: usize, levels: usize, around: usize) -> usize
+    requires { ⌜ (at ≤ stop) × (stop ≤ length (now s)) × (length (now s) ≤ limit) ⌝ }
+    ensures { λ r. ⌜ r ≡ told (measuredOf (whole stop (value levels (now (s .entry)) around at stop))) ⌝ }
+{
+    told::ended(measure_value(s, at, stop, levels, around), stop)
+}
 
 // A whole document whose positions nest to `depth`.
 pub fn measure_document(s: &[u8], depth: usize) -> usize

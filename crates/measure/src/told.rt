@@ -3,7 +3,7 @@ ghost use mathlib.Core.Path.{_≡_};
 ghost use mathlib.Core.Bool.{_||_};
 ghost use Prim.Native.Nat.{_≤_};
 ghost use Rattle.rows.specs.Table.{limit};
-ghost use Rattle.measure.specs.Contracts.{placeAndRow, placeIn, rowIn, isBroken, placeWrong, numberWrong, refusalOf, Right, Wrong, told};
+ghost use Rattle.measure.specs.Contracts.{placeAndRow, placeIn, rowIn, isBroken, placeWrong, numberWrong, refusalOf, endedAt, Right, Wrong, told};
 use format::Refusal;
 
 // From here on it is a refusal.
@@ -118,4 +118,18 @@ pub fn wrong_place(f: usize) -> usize
     ensures { λ r. ⌜ r ≡ placeWrong f ⌝ }
 {
     f % WRONG
+}
+
+// What a value position makes of all the bytes up to `stop`: none may stand behind it.
+pub fn ended(f: usize, stop: usize) -> usize
+    ensures { λ r. ⌜ r ≡ endedAt stop f ⌝ }
+{
+    if WRONG <= f {
+        return f;
+    }
+    let next = place_in(f);
+    if next == stop {
+        return f;
+    }
+    wrong(Refusal::Extra, next)
 }

@@ -11,6 +11,7 @@ use crate::key::measure_key;
 use crate::plain::end_child;
 use crate::told::WRONG;
 use crate::told::either;
+use crate::told::ended;
 use crate::told::is_broken;
 use crate::told::place_in;
 use crate::told::right;
@@ -22,7 +23,7 @@ use format::Holder;
 use format::Refusal;
 
 // One value position; `levels` are left, its own with them, and `around` entries are in force.
-fn measure_value(s: &[u8], at: usize, stop: usize, levels: usize, around: usize) -> usize
+pub fn measure_value(s: &[u8], at: usize, stop: usize, levels: usize, around: usize) -> usize
     requires { ⌜ (at ≤ stop) × (stop ≤ length (now s)) × (length (now s) ≤ limit) ⌝ }
     ensures { λ r. ⌜ r ≡ told (measuredOf (value levels (now (s .entry)) around at stop)) ⌝ }
 {
@@ -87,29 +88,14 @@ fn measure_declared(s: &[u8], at: usize, stop: usize, levels: usize, count: usiz
     right(1 + (row_in(es) + row_in(f)), place_in(f), broken)
 }
 
-// All the bytes from `at` to `stop`, as of a document or of a foreign body: one value position, and nothing behind it.
-pub fn measure_whole(s: &[u8], at: usize, stop: usize, levels: usize, around: usize) -> usize
-    requires { ⌜ (at ≤ stop) × (stop ≤ length (now s)) × (length (now s) ≤ limit) ⌝ }
-    ensures { λ r. ⌜ r ≡ told (measuredOf (whole stop (value levels (now (s .entry)) around at stop))) ⌝ }
-{
-    let f = measure_value(s, at, stop, levels, around);
-    if WRONG <= f {
-        return f;
-    }
-    let next = place_in(f);
-    if next == stop {
-        return f;
-    }
-    wrong(Refusal::Extra, next)
-}
-
 // A foreign body of `size` bytes stands at `place`: right or damaged, it is read once.
 fn measure_framed(s: &[u8], place: usize, size: usize, levels: usize, around: usize) -> usize
     requires { ⌜ (0 < place) × (place + size ≤ length (now s)) × (length (now s) ≤ limit) ⌝ }
     ensures { λ r. ⌜ r ≡ told (measuredOf (framed place size (whole (place + size) (value levels (now (s .entry)) (inForeign around) place (place + size))))) ⌝ }
 {
     let end = place + size;
-    let f = measure_whole(s, place, end, levels, format::in_foreign(around));
+    let inside = measure_value(s, place, end, levels, format::in_foreign(around));
+    let f = ended(inside, end);
     if WRONG <= f {
         return right(1, end, true);
     }

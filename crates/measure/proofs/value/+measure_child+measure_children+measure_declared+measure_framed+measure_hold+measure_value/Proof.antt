@@ -4,30 +4,27 @@ use Prim.Native.Nat.{ℕ, _+_, _*_, _-_, _<_}
 use borrow.Author.Needs.{needs}
 use Rattle.format.specs.Value.{value}
 use Rattle.format.proofs.Heads.{declare-within, hold-few, hold-within}
-use Rattle.measure.proofs.Measures.{Kept, all-fit, child-key, child-value, children-low, children-stop, declare-few, declare-low, declare-pos, declare-right, declare-wrong, entry-wrong, foreign-inside, foreign-pos, frame-few, frame-right, frame-wrong, hold-pos, hold-right, hold-wrong, holder-few, kept-all, kept-few, kept-first, kept-fits, kept-low, kept-next, kept-one, kept-plus, kept-wrong, leaf-low, refer-low, refuse-low, row-fits, rows-fit, value-declare, value-deep, value-foreign, value-hold, value-leaf, value-no-entry, value-refer, value-refuse, whole-ended, whole-longer, whole-refused}
+use Rattle.measure.proofs.Measures.{Kept, all-fit, child-key, child-value, children-low, children-stop, declare-few, declare-low, declare-pos, declare-right, declare-wrong, entry-wrong, foreign-inside, foreign-pos, frame-few, frame-right, frame-wrong, hold-pos, hold-right, hold-wrong, holder-few, kept-all, kept-few, kept-first, kept-fits, kept-low, kept-next, kept-one, kept-plus, kept-wrong, leaf-low, refer-low, refuse-low, row-fits, rows-fit, value-declare, value-deep, value-foreign, value-hold, value-leaf, value-no-entry, value-refer, value-refuse}
 use borrow.Fn.Kinds.{In}
 use borrow.Fn.PlainCycle.{Measures, is, falls, and}
 use Rattle.measure.proofs.value.measure_child.Reads as measure-child
 use Rattle.measure.proofs.value.measure_child.Kinds as measure-child-kinds
-use Rattle.measure.proofs.value.+measure_child+measure_children+measure_declared+measure_framed+measure_hold+measure_value+measure_whole.Lts-measure_child as measure-child-lts
+use Rattle.measure.proofs.value.+measure_child+measure_children+measure_declared+measure_framed+measure_hold+measure_value.Lts-measure_child as measure-child-lts
 use Rattle.measure.proofs.value.measure_children.Reads as measure-children
 use Rattle.measure.proofs.value.measure_children.Kinds as measure-children-kinds
-use Rattle.measure.proofs.value.+measure_child+measure_children+measure_declared+measure_framed+measure_hold+measure_value+measure_whole.Lts-measure_children as measure-children-lts
+use Rattle.measure.proofs.value.+measure_child+measure_children+measure_declared+measure_framed+measure_hold+measure_value.Lts-measure_children as measure-children-lts
 use Rattle.measure.proofs.value.measure_declared.Reads as measure-declared
 use Rattle.measure.proofs.value.measure_declared.Kinds as measure-declared-kinds
-use Rattle.measure.proofs.value.+measure_child+measure_children+measure_declared+measure_framed+measure_hold+measure_value+measure_whole.Lts-measure_declared as measure-declared-lts
+use Rattle.measure.proofs.value.+measure_child+measure_children+measure_declared+measure_framed+measure_hold+measure_value.Lts-measure_declared as measure-declared-lts
 use Rattle.measure.proofs.value.measure_framed.Reads as measure-framed
 use Rattle.measure.proofs.value.measure_framed.Kinds as measure-framed-kinds
-use Rattle.measure.proofs.value.+measure_child+measure_children+measure_declared+measure_framed+measure_hold+measure_value+measure_whole.Lts-measure_framed as measure-framed-lts
+use Rattle.measure.proofs.value.+measure_child+measure_children+measure_declared+measure_framed+measure_hold+measure_value.Lts-measure_framed as measure-framed-lts
 use Rattle.measure.proofs.value.measure_hold.Reads as measure-hold
 use Rattle.measure.proofs.value.measure_hold.Kinds as measure-hold-kinds
-use Rattle.measure.proofs.value.+measure_child+measure_children+measure_declared+measure_framed+measure_hold+measure_value+measure_whole.Lts-measure_hold as measure-hold-lts
+use Rattle.measure.proofs.value.+measure_child+measure_children+measure_declared+measure_framed+measure_hold+measure_value.Lts-measure_hold as measure-hold-lts
 use Rattle.measure.proofs.value.measure_value.Reads as measure-value
 use Rattle.measure.proofs.value.measure_value.Kinds as measure-value-kinds
-use Rattle.measure.proofs.value.+measure_child+measure_children+measure_declared+measure_framed+measure_hold+measure_value+measure_whole.Lts-measure_value as measure-value-lts
-use Rattle.measure.proofs.value.measure_whole.Reads as measure-whole
-use Rattle.measure.proofs.value.measure_whole.Kinds as measure-whole-kinds
-use Rattle.measure.proofs.value.+measure_child+measure_children+measure_declared+measure_framed+measure_hold+measure_value+measure_whole.Lts-measure_whole as measure-whole-lts
+use Rattle.measure.proofs.value.+measure_child+measure_children+measure_declared+measure_framed+measure_hold+measure_value.Lts-measure_value as measure-value-lts
 use Rattle.format.proofs.in_foreign.Reads as in-foreign-reads
 use Rattle.format.proofs.head.Children.in_force.Reads as in-force-reads
 use Rattle.format.proofs.head.Children.is_key.Reads as is-key-reads
@@ -37,15 +34,16 @@ use Rattle.heads.proofs.head_at.Reads as head-at-reads
 use Rattle.measure.proofs.key.measure_key.Reads as measure-key-reads
 use Rattle.measure.proofs.plain.end_child.Reads as end-child-reads
 use Rattle.measure.proofs.told.either.Reads as either-reads
+use Rattle.measure.proofs.told.ended.Reads as ended-reads
 use Rattle.measure.proofs.told.is_broken.Reads as is-broken-reads
 use Rattle.measure.proofs.told.place_in.Reads as place-in-reads
 use Rattle.measure.proofs.told.right.Reads as right-reads
 use Rattle.measure.proofs.told.row_in.Reads as row-in-reads
 use Rattle.measure.proofs.told.wrong.Reads as wrong-reads
-use Rattle.measure.proofs.value.+measure_child+measure_children+measure_declared+measure_framed+measure_hold+measure_value+measure_whole.{
+use Rattle.measure.proofs.value.+measure_child+measure_children+measure_declared+measure_framed+measure_hold+measure_value.{
   statement,
 }
-use Rattle.measure.proofs.value.+measure_child+measure_children+measure_declared+measure_framed+measure_hold+measure_value+measure_whole.Tie.{
+use Rattle.measure.proofs.value.+measure_child+measure_children+measure_declared+measure_framed+measure_hold+measure_value.Tie.{
   close,
 }
 
@@ -66,9 +64,6 @@ abbrev μ-measure-hold : Measures 1 measure-hold-kinds.ps ℕ
 
 abbrev μ-measure-value : Measures 1 measure-value-kinds.ps ℕ
 μ-measure-value κs a = 4 * a .1 .1 .1 .0
-
-abbrev μ-measure-whole : Measures 1 measure-whole-kinds.ps ℕ
-μ-measure-whole κs a = 4 * a .1 .1 .1 .0 + 1
 
 abbrev measure-child-at : ℕ → In 1 measure-child-kinds.ps
 measure-child-at t =
@@ -154,18 +149,6 @@ measure-value-below t =
     (falls 1 measure-value-kinds.ps _<_ μ-measure-value t)
     measure-value.Pre
 
-abbrev measure-whole-at : ℕ → In 1 measure-whole-kinds.ps
-measure-whole-at t =
-    and 1 measure-whole-kinds.ps (is 1 measure-whole-kinds.ps μ-measure-whole t) measure-whole.Pre
-
-abbrev measure-whole-below : ℕ → In 1 measure-whole-kinds.ps
-measure-whole-below t =
-    and
-    1
-    measure-whole-kinds.ps
-    (falls 1 measure-whole-kinds.ps _<_ μ-measure-whole t)
-    measure-whole.Pre
-
 abbrev measure-children-Inv-loop : measure-children-lts.InvT-loop
 measure-children-Inv-loop s at stop levels around children count i₀ rows₀ place₀ broken₀ i rows place broken =
     Kept (value levels s) children s around count at stop i rows place broken
@@ -174,9 +157,9 @@ abbrev measure-children-μ-loop : measure-children-lts.MeasureT-loop
 measure-children-μ-loop s at stop levels around children count i₀ rows₀ place₀ broken₀ i rows place broken =
     count - i
 
-pub +measure-child+measure-children+measure-declared+measure-framed+measure-hold+measure-value+measure-whole-spec :
+pub +measure-child+measure-children+measure-declared+measure-framed+measure-hold+measure-value-spec :
     {M : Type 1} → statement M
-+measure-child+measure-children+measure-declared+measure-framed+measure-hold+measure-value+measure-whole-spec =
++measure-child+measure-children+measure-declared+measure-framed+measure-hold+measure-value-spec =
     close
     μ-measure-child
     μ-measure-children
@@ -184,7 +167,6 @@ pub +measure-child+measure-children+measure-declared+measure-framed+measure-hold
     μ-measure-framed
     μ-measure-hold
     μ-measure-value
-    μ-measure-whole
     (λ t. measure-child-lts.spec (
       is-key-reads.Asked,
       is-key-reads.Learnt,
@@ -277,8 +259,10 @@ pub +measure-child+measure-children+measure-declared+measure-framed+measure-hold
     (λ t. measure-framed-lts.spec (
       in-foreign-reads.Asked,
       in-foreign-reads.Learnt,
-      measure-whole-below t,
-      measure-whole.Post,
+      measure-value-below t,
+      measure-value.Post,
+      ended-reads.Asked,
+      ended-reads.Learnt,
       right-reads.Asked,
       right-reads.Learnt,
       row-in-reads.Asked,
@@ -289,6 +273,7 @@ pub +measure-child+measure-children+measure-declared+measure-framed+measure-hold
     (measure-framed-at t)
     measure-framed.Post
     (λ c. search needs)
+    (λ c κs. search needs)
     (λ c κs. search needs)
     (λ c κs. search needs)
     (λ c κs. search needs)
@@ -326,7 +311,7 @@ pub +measure-child+measure-children+measure-declared+measure-framed+measure-hold
     (λ c κs. search needs)
     (λ c κs. search (needs, children-low, holder-few))
     (λ c. search hold-right))
-    (λ t. measure-value-lts.spec (
+    λ t. measure-value-lts.spec (
       wrong-reads.Asked,
       wrong-reads.Learnt,
       head-at-reads.Asked,
@@ -367,20 +352,4 @@ pub +measure-child+measure-children+measure-declared+measure-framed+measure-hold
     (λ c. search value-refuse)
     (λ c. search value-hold)
     (λ c. search value-declare)
-    (λ c. search value-foreign))
-    λ t. measure-whole-lts.spec (
-      measure-value-below t,
-      measure-value.Post,
-      place-in-reads.Asked,
-      place-in-reads.Learnt,
-      wrong-reads.Asked,
-      wrong-reads.Learnt,
-    )
-    (measure-whole-at t)
-    measure-whole.Post
-    (λ c κs. search needs)
-    (λ c. search whole-refused)
-    (λ c κs. search needs)
-    (λ c. search whole-ended)
-    (λ c κs. search needs)
-    (λ c. search whole-longer)
+    (λ c. search value-foreign)
