@@ -128,7 +128,7 @@ fn lay_long_binary(table: &mut [u32], s: &[u8], at: usize, stop: usize, row: usi
     }
 }
 
-// The leaf at `at`; or 0 where it is of another form, and nothing is laid.
+// The leaf at `at`; or 0 where it is of another form or no leaf stands there, and nothing is laid.
 pub fn lay_plain(table: &mut [u32], s: &[u8], at: usize, stop: usize, row: usize) -> usize
     requires { ⌜ Known (headAt (now s) at stop) ⌝ }
     requires { ⌜ (at < stop) × (stop ≤ length (now s)) × (length (now s) ≤ limit) ⌝ }

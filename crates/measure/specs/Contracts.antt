@@ -92,6 +92,6 @@ refusalOf n =
     (cond (eqb n 9) why.Deep
     why.Extra)))))))
 
--- f tells a value position; all the bytes up to `stop` are it where it ends there, and else they have bytes too many
+-- f tells a value position. All the bytes up to `stop` are it where it ends there, and have bytes too many where it does not; a refusal stays
 unfoldable pub endedAt : ℕ → ℕ → ℕ
 endedAt stop f = cond (leb 0x100000000000000 f) f (cond (eqb (placeIn f) stop) f (told (Wrong why.Extra (placeIn f))))
