@@ -56,7 +56,8 @@ enum panxidell_answer {
 };
 
 /* A row's six uint32_t are kind, end, w0, w1, w2, w3. End is the row behind all the row's children; a leaf's is its row + 1. Rows stand in
- * document order, a holder before its children. Words that are not named are 0. A place is an index into the data. */
+ * document order, a holder before its children. Words that are not named are 0. A place is an index into the data. A foreign document sees
+ * no entry that is declared around it: one that refers to such an entry is damaged, with PANXIDELL_NO_ENTRY in w2. */
 enum panxidell_word {
     PANXIDELL_KIND = 0,
     PANXIDELL_END = 1,

@@ -55,10 +55,8 @@ impl Check<'_> {
                 first
             }
             (kind::DECLARATION, [count @ 1..=u32::MAX, 0, 0, 0]) => self.declaration(first, end, count, depth + 1)?,
-            (kind::FOREIGN, [0, 0, 0, 0]) => self.value(first, end, depth + 1, registry)?,
-            (kind::FOREIGN, [place, size, verdict, 0])
-                if self.verdict(place, size, depth + 1, registry) == Some(verdict) =>
-            {
+            (kind::FOREIGN, [0, 0, 0, 0]) => self.value(first, end, depth + 1, &Registry::EMPTY)?,
+            (kind::FOREIGN, [place, size, verdict, 0]) if self.verdict(place, size, depth + 1) == Some(verdict) => {
                 first
             }
             _ => return None,
@@ -102,11 +100,11 @@ impl Check<'_> {
         self.value(next, bound, depth, &registry)
     }
 
-    /// The number under which those bytes are refused as a document there.
-    fn verdict(&self, place: u32, size: u32, depth: u32, registry: &Registry) -> Option<u32> {
+    /// The number under which those bytes are refused as a document there, with no entry in force (request §2).
+    fn verdict(&self, place: u32, size: u32, depth: u32) -> Option<u32> {
         self.part(place, size)?;
         let end = place as usize + size as usize;
-        let refused = measure::body(&self.data[..end], place as usize, depth, registry.force()).err()?;
+        let refused = measure::body(&self.data[..end], place as usize, depth).err()?;
         Some(refused.number())
     }
 

@@ -82,7 +82,7 @@ impl Fill<'_> {
             kind::RECORD => next = self.entries(next, head.number, depth, registry),
             kind::MAP => next = self.elements(next, 2 * head.number, depth, registry),
             kind::DECLARATION => next = self.declaration(next, head.number, depth),
-            _ => words = self.foreign(&head, depth, registry),
+            _ => words = self.foreign(&head, depth),
         }
         self.put(row, head.kind, words);
         next
@@ -119,17 +119,17 @@ impl Fill<'_> {
         self.value(next, depth, &registry)
     }
 
-    /// The words of a foreign row; a right body's rows are written behind it.
+    /// The words of a foreign row; a right body's rows are written behind it. It starts with no entry (request §2).
     #[inline(never)]
-    fn foreign(&mut self, head: &Head, depth: u32, registry: &Registry) -> Words {
+    fn foreign(&mut self, head: &Head, depth: u32) -> Words {
         let outside = self.sound;
         if !outside {
-            match measure::body(&self.data[..head.next], head.place, depth, registry.force()) {
+            match measure::body(&self.data[..head.next], head.place, depth) {
                 Ok(body) => self.sound = body.sound,
                 Err(refusal) => return [head.place as u32, head.number, refusal.number(), 0],
             }
         }
-        self.value(head.place, depth, registry);
+        self.value(head.place, depth, &Registry::EMPTY);
         self.sound = outside;
         [0; 4]
     }

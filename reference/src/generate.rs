@@ -188,7 +188,7 @@ fn body_forms(marker: u8, value: u128, fits: impl Fn(usize) -> bool) -> Vec<Vec<
 }
 
 /// Bodies that are no right document anywhere, with their verdicts at depth 32 and above.
-pub const DAMAGED: [(&[u8], u32); 14] = [
+pub const DAMAGED: [(&[u8], u32); 15] = [
     (&[], 2),
     (&[0x81, 0x61], 2),
     (&[0xc0, 0x61], 2),
@@ -198,6 +198,7 @@ pub const DAMAGED: [(&[u8], u32); 14] = [
     (&[0x08, 0xfb, 0, 0, 0, 1], 4),
     (&[0x81, 0xc0, 0x80], 5),
     (&[0xc0, 0x00, 0xd8, 0x00], 6),
+    (&[0xc1], 7),
     (&[0xff, 0xfa, 0xff, 0xff, 0xff], 7),
     (&[0x0d, 0x0d, 0xf8, 0x00], 8),
     (&[0xa0; 34], 9),
@@ -230,7 +231,7 @@ pub fn tree(random: &mut Random, depth: u32, force: u32, rows: &mut usize) -> No
             let entries = (0..count).map(|before| tree(random, depth + 1, before, rows)).collect();
             Node::Declaration(entries, Box::new(tree(random, depth + 1, count, rows)))
         }
-        _ => Node::Foreign(Box::new(tree(random, depth + 1, force, rows))),
+        _ => Node::Foreign(Box::new(tree(random, depth + 1, 0, rows))),
     }
 }
 

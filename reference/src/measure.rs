@@ -23,19 +23,20 @@ pub(crate) fn whole(data: &[u8]) -> Result<Measure, Refusal> {
     if data.len() > LIMIT as usize {
         return Err(Refusal::bare(Fault::TooLong));
     }
-    body(data, 0, 0, 0)
+    body(data, 0, 0)
 }
 
-/// Measures the document from `at` to the end of the data, its position at `depth` under `force` entries.
-pub(crate) fn body(data: &[u8], at: usize, depth: u32, force: u32) -> Result<Measure, Refusal> {
+/// Measures the document from `at` to the end of the data, its position at `depth`.
+pub(crate) fn body(data: &[u8], at: usize, depth: u32) -> Result<Measure, Refusal> {
     let mut measure = Measure { rows: 0, sound: true };
-    measure.document(data, at, depth, force)?;
+    measure.document(data, at, depth)?;
     Ok(measure)
 }
 
 impl Measure {
-    fn document(&mut self, data: &[u8], at: usize, depth: u32, force: u32) -> Result<(), Refusal> {
-        let next = self.value(data, at, depth, force)?;
+    /// No entry is in force at the start of a document, a foreign body's neither (request §2).
+    fn document(&mut self, data: &[u8], at: usize, depth: u32) -> Result<(), Refusal> {
+        let next = self.value(data, at, depth, 0)?;
         if next < data.len() {
             return Err(Refusal::at(Fault::Extra, next));
         }
@@ -71,7 +72,7 @@ impl Measure {
             kind::MAP => self.elements(data, head.next, 2 * head.number, depth, force),
             kind::DECLARATION => self.declaration(data, head.next, head.number, depth),
             _ => {
-                self.foreign(&data[..head.next], head.place, depth, force);
+                self.foreign(&data[..head.next], head.place, depth);
                 Ok(head.next)
             }
         }
@@ -110,9 +111,9 @@ impl Measure {
     }
 
     /// A body that is not a whole right document adds no rows. Each body is read once.
-    fn foreign(&mut self, data: &[u8], at: usize, depth: u32, force: u32) {
+    fn foreign(&mut self, data: &[u8], at: usize, depth: u32) {
         let rows = self.rows;
-        if self.document(data, at, depth, force).is_err() {
+        if self.document(data, at, depth).is_err() {
             self.rows = rows;
             self.sound = false;
         }

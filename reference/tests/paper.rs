@@ -139,10 +139,31 @@ fn foreign_documents() {
     assert_eq!(rows("a1 0d 00 02 81 61 01"), expected);
     assert_eq!(only("0d 00 02 02 02"), (16, [3, 2, 10, 0]));
     assert_eq!(refused_hex("0d 00 05 02"), (2, 0));
-    let expected = [[15, 4, 1, 0, 0, 0], [4, 2, 5, 0, 0, 0], [16, 4, 0, 0, 0, 0], [14, 4, 0, 1, 0, 0]];
+}
+
+/// Request §2.
+#[test]
+fn a_foreign_body_starts_with_nothing() {
+    let expected = [[15, 3, 1, 0, 0, 0], [4, 2, 5, 0, 0, 0], [16, 3, 7, 1, 7, 0]];
     assert_eq!(rows("0d 0d 01 44 0d 00 01 c1"), expected);
-    // Entry 0 sees no entry, in a foreign body neither.
+    // A document inlined without the header is unchanged.
+    assert_eq!(rows("0d 0d 01 44 c1")[2], [14, 3, 0, 1, 0, 0]);
+    // A body that declares for itself; behind it the entry outside is in force again.
+    let expected = [
+        [15, 8, 1, 0, 0, 0],
+        [4, 2, 5, 0, 0, 0],
+        [9, 8, 2, 0, 0, 0],
+        [16, 7, 0, 0, 0, 0],
+        [15, 7, 1, 0, 0, 0],
+        [4, 6, 6, 0, 0, 0],
+        [14, 7, 0, 5, 0, 0],
+        [14, 8, 0, 1, 0, 0],
+    ];
+    assert_eq!(rows("0d 0d 01 44 a1 0d 00 05 0d 0d 01 45 c1 c1"), expected);
+    // In a body in a body, as the first entry, and behind one.
+    assert_eq!(rows("0d 00 08 0d 0d 01 44 0d 00 01 c1")[3], [16, 4, 10, 1, 7, 0]);
     assert_eq!(rows("0d 0d 01 0d 00 01 c1 02")[1], [16, 2, 6, 1, 7, 0]);
+    assert_eq!(rows("0d 0d 02 44 0d 00 01 c1 02")[2], [16, 3, 7, 1, 7, 0]);
 }
 
 #[test]
@@ -481,8 +502,11 @@ fn row_rules() {
     assert!(one(16, [0, 1, 7, 0], &[0xc1]) && !one(16, [0, 1, 2, 0], &[0xc1]) && !one(16, [0, 1, 7, 1], &[0xc1]));
     assert!(!one(16, [0, 1, 7, 0], &[2]) && !one(16, [0, 1, 0, 0], &[2]) && !one(16, [0, 2, 7, 0], &[0xc1]));
     assert!(one(16, [1, 0, 2, 0], &[0xc1]) && !one(16, [2, 0, 2, 0], &[0xc1]));
+    // A body sees no entry around it: one that refers to it is damaged, and a right one does not refer to it.
     let declared = |verdict| [[15, 3, 1, 0, 0, 0], [3, 2, 0, 0, 0, 0], [16, 3, 0, 1, verdict, 0]];
-    assert!(!good(&declared(7), &[0xc1]) && !good(&declared(0), &[0xc1]) && good(&declared(7), &[0xc2]));
+    assert!(good(&declared(7), &[0xc1]) && !good(&declared(0), &[0xc1]) && good(&declared(7), &[0xc2]));
+    let body = |row| [[15, 4, 1, 0, 0, 0], [3, 2, 0, 0, 0, 0], [16, 4, 0, 0, 0, 0], row];
+    assert!(!good(&body([14, 4, 0, 1, 0, 0]), &[]) && good(&body([3, 4, 0, 0, 0, 0]), &[]));
     // Holders: children back to back, in the number said.
     let none = |end| [3, end, 0, 0, 0, 0];
     assert!(good(&[[9, 3, 2, 0, 0, 0], none(2), none(3)], &[]));

@@ -91,7 +91,7 @@ fn expected(node: &Node, entries: &[usize], rows: &mut Vec<Carried>) {
             }
             expected(value, &before, rows);
         }
-        Node::Foreign(value) => expected(value, entries, rows),
+        Node::Foreign(value) => expected(value, &[], rows),
         _ => {}
     }
     rows[own].0[1] = rows.len() as u32;
@@ -191,6 +191,47 @@ fn walks(table: &[u32], n: usize) {
     let mut next = 0;
     from(table, n, start(n), &mut next);
     assert_eq!((next, on(table, n, start(n)).unwrap_err().number()), (n, 14));
+}
+
+/// Request §2: a foreign body has the rows of its bytes alone, row numbers and places moved, or the verdict for which
+/// they are refused alone, whatever is in force around it.
+#[test]
+fn a_body_is_what_its_bytes_are_alone() {
+    let mut random = Random::new(5);
+    let mut met = [0; 11];
+    for _ in 0..DOCUMENTS {
+        let (force, mut rows) = (random.below(3) as u32, random.one_of(&[1, 3, 8, 20]));
+        let body = longer(&tree(&mut random, 3, force, &mut rows), &mut random);
+        let body = if random.below(3) == 0 { changed(&body, &mut random) } else { body };
+        // Alone it has three levels more: leave out what could be too deep here and not there.
+        if body.windows(20).any(|run| run == [0xa0; 20]) {
+            continue;
+        }
+        let front =
+            [&[0x0d, 0x0d, 0x02, 0x01, 0x02, 0xa1, 0x02, 0x0d, 0x00, 0xfa], &body.len().to_le_bytes()[..3]].concat();
+        let document = [&front[..], &body].concat();
+        let place = front.len() as u32;
+        let (answer, table) = filled(&document, 6 * document.len());
+        let rows = &lent(&table)[..answer.unwrap()];
+        let alone = filled(&body, 6 * body.len());
+        let expected = match alone.0 {
+            Ok(n) => {
+                let moved = |&[kind, end, w0, w1, w2, w3]: &Row| match kind {
+                    7 | 8 | 12 | 17 => [kind, 6 + end, place + w0, w1, w2, w3],
+                    16 if w2 != 0 => [kind, 6 + end, place + w0, w1, w2, w3],
+                    14 => [kind, 6 + end, w0, 6 + w1, w2, w3],
+                    _ => [kind, 6 + end, w0, w1, w2, w3],
+                };
+                let mut rows = vec![[16, 6 + n as u32, 0, 0, 0, 0]];
+                rows.extend(lent(&alone.1)[..n].iter().map(moved));
+                rows
+            }
+            Err((number, _)) => vec![[16, 6, place, body.len() as u32, number, 0]],
+        };
+        assert_eq!(rows[5..], expected, "{body:02x?}");
+        met[alone.0.map_or_else(|(number, _)| number, |_| 0) as usize] += 1;
+    }
+    assert!([0, 2, 3, 7, 10].iter().all(|number| met[*number] >= 100), "{met:?}");
 }
 
 #[test]

@@ -15,7 +15,7 @@ use Rattle.rows.specs.declared.row.Row.{Row}
 use Rattle.rows.specs.Table.{Own, ownOf, rowAt, lent, limit}
 use Rattle.rows.specs.Kinds.{declarationOwn}
 use Rattle.registry.specs.Contracts.{chain, firstIn, Based, baseOf}
-use Rattle.registry.proofs.Walks.{based-fewer, based-plain, based-rows, chain-fewer, first-base, first-plain, length-chain, below-none, below-fewer, walk-start, chain-grown, walk-grown, below-grown}
+use Rattle.registry.proofs.Walks.{based-plain, based-rows, chain-fewer, first-base, first-plain, length-chain, below-none, below-fewer, walk-start, chain-grown, walk-grown, below-grown}
 use Rattle.format.specs.declared.head.Holder.{Holder}
 use Rattle.format.specs.declared.head.Children.{Children}
 use Rattle.format.specs.declared.head.Children.the-variants.{Plain, Keyed, Entries}
@@ -197,17 +197,13 @@ module _ (table : List ℕ) (n first k row : ℕ) (ready : EntriesBefore table n
   pub ready-lent : row ≤ lent table
   ready-lent = omega (arith, ready .room, ready .here)
 
-  under : row < n → EntriesBefore table n first k (row + 1)
-  under h = record { room = ready .room; few = ready .few; here = omega arith; below = below-fewer table first k k row (row + 1) (ready .below) (omega arith) (omega arith) }
+  pub whole-asks : (m : ℕ) → m ≤ k → row < n → EntriesBefore table n first m (row + 1)
+  whole-asks m f h =
+      record { room = ready .room; few = ready .few; here = omega arith; below = below-fewer table first k m row (row + 1) (ready .below) (omega arith) (omega arith) }
 
   pub hold-asks : (h : Holder) (c : Children) → c ≡ childrenOf h → row < n → EntriesBeforeChild table n first k c 0 (row + 1)
   hold-asks h c e l =
-      rw e record { before = subst (λ (x : ℕ). EntriesBefore table n first x (row + 1)) (sym (around-force h k 0)) (under l); linked = λ q. absurd (let z : _≡_ {A = ℕ} 0 1 = cc (no-entry h) in omega arith) }
-
-  pub whole-asks : (m : ℕ) → m ≡ inForeign k → row < n → EntriesBefore table n first m (row + 1)
-  whole-asks m e h =
-      let f = in-foreign-few k in
-      record { room = ready .room; few = ready .few; here = omega arith; below = below-fewer table first k m row (row + 1) (ready .below) (omega arith) (omega arith) }
+      rw e record { before = subst (λ (x : ℕ). EntriesBefore table n first x (row + 1)) (sym (around-force h k 0)) (whole-asks k (omega arith) l); linked = λ q. absurd (let z : _≡_ {A = ℕ} 0 1 = cc (no-entry h) in omega arith) }
 
 entries-ready : (table : List ℕ) (n row : ℕ) → n ≤ lent table → n ≤ limit → row ≤ n → EntriesBeforeChild table n row 0 Entries 0 row
 entries-ready table n row a b c = record { before = record { room = a; few = b; here = c; below = below-none table row row }; linked = λ q. sym (walk-start table row) }
@@ -223,8 +219,8 @@ entries-based table n row a b = record { based = based-plain table row 0 (omega 
 pub hold-based : (table : List ℕ) (base k : ℕ) (h : Holder) (c : Children) → c ≡ childrenOf h → Based table base k → BasedForChild table base k c
 hold-based table base k h c e b = rw e record { based = b; walked = λ q. absurd (let z : _≡_ {A = ℕ} 0 1 = cc (no-entry h) in omega arith) }
 
-pub whole-based : (table : List ℕ) (base k m : ℕ) → m ≡ inForeign k → Based table base k → Based table base m
-whole-based table base k m e b = let f = in-foreign-few k in based-fewer table base k m b (omega arith)
+pub whole-few : (k m : ℕ) → m ≡ inForeign k → m ≤ k
+whole-few k m e = omega (arith, in-foreign-few k)
 
 pub child-based : (table : List ℕ) (base k : ℕ) (c : Children) (i : ℕ) → BasedForChild table base k c → Based table base (inForce c k i)
 child-based table base k Plain i b = b .based

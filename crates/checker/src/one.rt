@@ -118,7 +118,8 @@ pub fn check_damaged(s: &[u8], row: usize, levels: usize, around: usize, w: Row)
 {
     let place = rows::number(w.w0);
     let end = place + rows::number(w.w1);
-    let f = measure::measure_whole(s, place, end, levels, format::in_foreign(around));
+    let inside = format::in_foreign(around);
+    let f = measure::measure_whole(s, place, end, levels, inside);
     if told::WRONG <= f {
         return verdict_is(row, w, told::number_in(f));
     }

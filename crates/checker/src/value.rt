@@ -73,15 +73,9 @@ fn check_row(
         }
         Shape::Declare => { check_declared(table, n, s, row + 1, levels, rows::number(w.w0)) }
         Shape::Whole => {
-            check_value(
-                table,
-                n,
-                s,
-                row + 1,
-                levels,
-                base,
-                format::in_foreign(around),
-            )
+            let under = row + 1;
+            let inside = format::in_foreign(around);
+            check_value(table, n, s, under, levels, base, inside)
         }
         Shape::Damaged => check_damaged(s, row, levels, around, w),
     }

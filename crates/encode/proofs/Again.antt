@@ -6,14 +6,12 @@ use native.Mathlib.Nat.{add-zero}
 use mathlib.Core.Bool.{Bool, true, false, cond}
 use mathlib.Core.List.{List, [], _++_}
 use lib.ListN.{length, take, drop, length-append}
-use lib.Dec.{eqb}
-use borrow.Author.Tests.{le-leb, ne-eqb, eqb-false}
+use borrow.Author.Tests.{le-leb, ne-eqb}
 use Rattle.wide.specs.Family.{form}
 use Rattle.wide.specs.Members.{keyLength, referenceNumber, declarationCount, foreignLength}
 use Rattle.rows.specs.Table.{Own, withPlace, limit}
 use Rattle.rows.specs.Kinds.{kindKey, holderOwn, referenceOwn, declarationOwn, foreignOwn, damagedOwn}
 use Rattle.format.specs.declared.refusal.Refusal.{Refusal}
-use Rattle.format.specs.declared.refusal.Refusal.the-variants as why
 use Rattle.format.specs.declared.head.Holder.{Holder}
 use Rattle.format.specs.declared.head.Holder.the-variants.{Array, Record, Map}
 use Rattle.format.specs.declared.head.Head.the-variants as stand
@@ -21,10 +19,9 @@ use Rattle.format.specs.declared.head.Children.{Children}
 use Rattle.format.specs.declared.head.Children.the-variants.{Entries}
 use Rattle.format.specs.Head.{headAt, keyAt}
 use Rattle.format.specs.Tree.{Tree, leaf, refer, hold, declare, foreign, damaged, Trees, none, more, many}
-use Rattle.format.specs.Value.{Reading, right, wrong, ran, kindOf, childCount, childrenOf, keyed, inTurn, child, inForce, ahead, follow, readings, framed, inForeign, value, ended, whole, isKey}
+use Rattle.format.specs.Value.{Reading, right, wrong, ran, kindOf, childCount, childrenOf, keyed, inTurn, child, inForce, ahead, follow, readings, framed, inForeign, value, whole, isKey}
 use Rattle.format.proofs.Steps as clauses
 use Rattle.format.proofs.Layouts.{around-force}
-use Rattle.format.proofs.Values.{ReadAt, value-read}
 use Rattle.rules.specs.declared.kind.Kind.{Kind}
 use Rattle.rules.specs.declared.kind.Kind.the-variants.{Damaged}
 use Rattle.rules.specs.declared.shape.Shape.{Shape}
@@ -35,9 +32,10 @@ use Rattle.rules.proofs.Says.{names, key-named, key-kind, key-spelt, refer-own,
 use Rattle.rules.proofs.Judged.{spelt-span}
 use Rattle.rules.proofs.Read.{force-next}
 use Rattle.encode.specs.Encode.{holderCount, headFor, headOf, hasBytes, encode, encodes}
-use Rattle.encode.proofs.Places.{movedIf}
+use Rattle.encode.proofs.Places.{movedIf, damaged-named}
 use Rattle.encode.proofs.Placed.{placed, placeds}
-use Rattle.encode.proofs.Elsewhere.{told, value-moved}
+use Rattle.encode.proofs.Further.{readingFurther}
+use Rattle.encode.proofs.Elsewhere.{whole-alone, further-wrong}
 use Rattle.encode.proofs.Fronts.{Stand, stand-first, stand-second, array-front, record-front, map-front, reference-front, declaration-front, foreign-front}
 use Rattle.encode.proofs.Leaves.{payload-few, payload-there, key-back}
 use Rattle.encode.proofs.Back.{spelling, span-placed, part-long, leaf-back}
@@ -79,42 +77,17 @@ pub foreign-head : (size : ℕ) → headOf foreignOwn size ≡ form foreignLengt
 unfolding headFor named
 foreign-head size = refl
 
-pub damaged-named : (place n : ℕ) (e : Refusal) → named (damagedOwn place n (refusalNumber e)) ≡ Damaged
-unfolding named
-damaged-named place n why.Short = refl
-damaged-named place n why.Marker = refl
-damaged-named place n why.Huge = refl
-damaged-named place n why.Text = refl
-damaged-named place n why.Char = refl
-damaged-named place n why.NoEntry = refl
-damaged-named place n why.Empty = refl
-damaged-named place n why.Deep = refl
-damaged-named place n why.Extra = refl
-
 -- ---- a damaged body
 
--- readings with the same outcome are damaged alike
-whole-like : (p q n : ℕ) (x y : Reading) → told p x ≡ told q y → ReadAt p (p + n) x → ReadAt q (q + n) y → (e : Refusal) (place : ℕ) → whole (q + n) y ≡ wrong e place
-    → (place′ : ℕ) × (whole (p + n) x ≡ wrong e place′)
-whole-like p q n (right t a) (right u b) same g h e place v = of (eqb b (q + n)) refl v
+-- the same bytes at p of s′ and at q of s are damaged alike
+damaged-alike : (d k : ℕ) (s s′ : List ℕ) (p q n : ℕ) → take n (drop p s′) ≡ take n (drop q s) → (e : Refusal) (place : ℕ) → whole (q + n) (value d s k q (q + n)) ≡ wrong e place
+    → (place′ : ℕ) × (whole (p + n) (value d s′ k p (p + n)) ≡ wrong e place′)
+damaged-alike d k s s′ p q n same e place v =
+    let u = further-wrong q (body (take n (drop q s))) e place (sym (whole-alone d s q n k) ∙ v) in
+    (p + u .0, whole-alone d s′ p n k ∙ ap (λ (l : List ℕ). readingFurther p (body l)) same ∙ ap (readingFurther p) (u .1))
   where
-    of : (c : Bool) → eqb b (q + n) ≡ c → ended c u b ≡ wrong e place → (place′ : ℕ) × (whole (p + n) (right t a) ≡ wrong e place′)
-    of true r z = absurd (let y : _≡_ {A = ℕ} 0 1 = cc in omega arith)
-    of false r z =
-        let w : why.Extra ≡ e = cc in
-        let m : a - p ≡ b - q = cc in
-        let i : eqb a (p + n) ≡ false = ne-eqb a (p + n) (λ i. eqb-false b (q + n) r (omega (arith, g .some, g .rows, h .some, h .rows))) in
-        (a, ap (λ (c : Bool). ended c t a) i ∙ ap (λ (y : Refusal). wrong y a) w)
-whole-like p q n (right t a) (wrong y b) same g h e place v = absurd (let z : _≡_ {A = ℕ} 0 1 = cc in omega arith)
-whole-like p q n (wrong y a) (right t b) same g h e place v = absurd (let z : _≡_ {A = ℕ} 0 1 = cc in omega arith)
-whole-like p q n (wrong y a) (wrong z b) same g h e place v = let w : y ≡ e = cc in (a, ap (λ (r : Refusal). wrong r a) w)
-
--- the same bytes at p of s′ and at q of s
-told-same : (d k : ℕ) (s s′ : List ℕ) (p q n : ℕ) → take n (drop p s′) ≡ take n (drop q s) → told p (value d s′ k p (p + n)) ≡ told q (value d s k q (q + n))
-told-same d k s s′ p q n e =
-    ap (λ (i : ℕ). told p (value d s′ k i (p + n))) (sym (add-zero p)) ∙ value-moved d s′ p n k 0 n (omega arith)
-    ∙ ap (λ (l : List ℕ). told 0 (value d l k 0 n)) e
-    ∙ sym (value-moved d s q n k 0 n (omega arith)) ∙ ap (λ (i : ℕ). told q (value d s k i (q + n))) (add-zero q)
+    body : List ℕ → Reading
+    body l = whole n (value d l k 0 n)
 
 module _ (s s′ : List ℕ) (d k at stop : ℕ) (short : length s′ ≤ limit) where
   -- a foreign body of n bytes
@@ -137,9 +110,7 @@ module _ (s s′ : List ℕ) (d k at stop : ℕ) (short : length s′ ≤ limit)
       let p : ℕ = at + length F in
       let l : length P ≡ n = part-long s place n f in
       let next : p + n ≡ at + length (F ++ P) = omega (arith, length-append F P, l) in
-      let y =
-      whole-like p place n (value d s′ (inForeign k) p (p + n)) (value d s (inForeign k) place (place + n))
-      (told-same d (inForeign k) s s′ p place n (payload-there s′ at stop F P n h l)) (value-read d s′ (inForeign k) p (p + n)) (value-read d s (inForeign k) place (place + n)) e there v in
+      let y = damaged-alike d (inForeign k) s s′ p place n (payload-there s′ at stop F P n h l) e there v in
       foreign-read P n l h ∙ ap (framed p n) (y .1) ∙ ap (right (damaged (damagedOwn p n (refusalNumber e)))) next
 
   damaged-again : (o : Own) → shapeOf s o ≡ shape.Damaged → Spoilt s d (inForeign k) o → Stand s′ at stop (encode s (damaged o))

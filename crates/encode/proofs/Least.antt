@@ -52,7 +52,8 @@ use Rattle.encode.specs.Encode.{holderCount, headFor, headOf, hasBytes, 
 use Rattle.format.proofs.Heads.{IntegerAt, Payload, floating, written, plain, ContentAt, Stood, head-stood}
 use Rattle.format.proofs.Values.{ReadAt, value-read, document-value, document-next}
 use Rattle.encode.proofs.Fronts.{no-alone, limit-whole}
-use Rattle.encode.proofs.Again.{reference-head, holder-head, declaration-head, foreign-head, damaged-named}
+use Rattle.encode.proofs.Places.{damaged-named}
+use Rattle.encode.proofs.Again.{reference-head, holder-head, declaration-head, foreign-head}
 use Rattle.format.specs.Refusal.{refusalNumber}
 
 -- ---- a length, count or number

@@ -6,7 +6,7 @@ use native.Mathlib.Nat.{add-zero}
 use native.Mathlib.Omega.{arith}
 use mathlib.Core.Bool.{Bool, true, false}
 use mathlib.Core.List.{List, [], _∷_, _++_, append-assoc}
-use lib.ListN.{length, getD, drop, length-append, List·getD-append}
+use lib.ListN.{length, getD, take, drop, length-append, List·getD-append}
 use lib.Seq.{sets, getD-at, length-take-le}
 use Rattle.lists.proofs.Sets.{sets-append}
 use Rattle.rows.specs.declared.row.Row.{Row}
@@ -34,10 +34,19 @@ around-force Map k i = refl
 
 -- ---- what is in force in a foreign body
 
--- no more entries than around it; all that is argued of it rests on this
+-- no more entries than around it; all that is argued of it rests on this, but for what a body is by itself
 pub in-foreign-few : (k : ℕ) → inForeign k ≤ k
 unfolding inForeign
 in-foreign-few k = omega arith
+
+-- none of them: what a body is by itself rests on this
+pub in-foreign-none : (k : ℕ) → inForeign k ≡ 0
+unfolding inForeign
+in-foreign-none k = refl
+
+-- nor their rows
+pub body-none : (registry : List ℕ) → inBody registry ≡ []
+body-none registry = ap (λ (k : ℕ). take k registry) (in-foreign-none (length registry))
 
 -- their rows are so many
 pub length-body : (registry : List ℕ) → length (inBody registry) ≡ inForeign (length registry)

@@ -24,7 +24,7 @@ unfoldable pub entries : Trees → ℕ → List ℕ → List ℕ
 entries none row registry = registry
 entries (more t ts) row registry = entries ts (row + size t) (grown true registry row)
 
--- the rows of the entries that are in force in a foreign body, of those around it
+-- the rows of the entries in force at the start of a foreign body, of those around it
 abbrev pub inBody : List ℕ → List ℕ
 inBody registry = take (inForeign (length registry)) registry
 

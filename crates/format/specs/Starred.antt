@@ -1,4 +1,4 @@
--- The paper's starred cases that speak of reading, and the slips that it names. Assumes nothing: these are definitions.
+-- The paper's starred cases that speak of reading, the slips that it names, and the cases of request §2. Assumes nothing: these are definitions.
 use Prim.Native.Nat.{ℕ, zero, suc, _*_}
 use mathlib.Core.List.{List, [], _∷_, _++_}
 use lib.ListN.{replicate}
@@ -75,7 +75,7 @@ starred =
     ∷ refused (0xc0 ∷ 0x00 ∷ 0x00 ∷ 0x11 ∷ []) (Refused why.Char 0)
     ∷ []
 
--- "Slips that look right", the order of refusals at one position, and kinds that no starred case has
+-- "Slips that look right", the order of refusals at one position, kinds that no starred case has, and the cases of request §2
 unfoldable pub slips : List Case
 slips =
     -- "Taking a table that ran full inside a foreign body as a damaged body."
@@ -104,9 +104,14 @@ slips =
     -- "Place is the first byte of the innermost value position or key being read."
     ∷ refused (0xb0 ∷ 0x02 ∷ 0x61 ∷ []) (Refused why.Short 1)
     ∷ refused (0xb0 ∷ 0x01 ∷ 0x61 ∷ 0xc1 ∷ []) (Refused why.NoEntry 3)
-    -- "under the registry in force around it": `0d 0d 01 44 0d 00 01 c1`: accepted, four rows
-    ∷ reads (0x0d ∷ 0x0d ∷ 0x01 ∷ 0x44 ∷ 0x0d ∷ 0x00 ∷ 0x01 ∷ 0xc1 ∷ []) 4
-    (row 15 4 1 0 0 0 ++ row 4 2 5 0 0 0 ++ row 16 4 0 0 0 0 ++ row 14 4 0 1 0 0)
+    -- "The case `0d 0d 01 44 0d 00 01 c1` now gives three rows, the last damaged with verdict 7." (request §2)
+    ∷ reads (0x0d ∷ 0x0d ∷ 0x01 ∷ 0x44 ∷ 0x0d ∷ 0x00 ∷ 0x01 ∷ 0xc1 ∷ []) 3 (row 15 3 1 0 0 0 ++ row 4 2 5 0 0 0 ++ row 16 3 7 1 7 0)
+    -- a body in an entry, which sees no entry before it
+    ∷ reads (0x0d ∷ 0x0d ∷ 0x02 ∷ 0x44 ∷ 0x0d ∷ 0x00 ∷ 0x01 ∷ 0xc1 ∷ 0x02 ∷ []) 4
+    (row 15 4 2 0 0 0 ++ row 4 2 5 0 0 0 ++ row 16 3 7 1 7 0 ++ row 3 4 0 0 0 0)
+    -- a body that declares for itself and refers to it; behind it what is around it is in force again
+    ∷ reads (0x0d ∷ 0x0d ∷ 0x01 ∷ 0x44 ∷ 0xa1 ∷ 0x0d ∷ 0x00 ∷ 0x05 ∷ 0x0d ∷ 0x0d ∷ 0x01 ∷ 0x45 ∷ 0xc1 ∷ 0xc1 ∷ []) 8
+    (row 15 8 1 0 0 0 ++ row 4 2 5 0 0 0 ++ row 9 8 2 0 0 0 ++ row 16 7 0 0 0 0 ++ row 15 7 1 0 0 0 ++ row 4 6 6 0 0 0 ++ row 14 7 0 5 0 0 ++ row 14 8 0 1 0 0)
     -- "A record key is a length and text, with no marker; a map key is a value position."
     ∷ reads (0xb0 ∷ 0x01 ∷ 0x61 ∷ 0x01 ∷ []) 3 (row 10 3 1 0 0 0 ++ row 17 2 2 1 0 0 ++ row 2 3 0 0 0 0)
     ∷ reads (0xb8 ∷ 0x80 ∷ 0x61 ∷ 0x01 ∷ []) 3 (row 11 3 1 0 0 0 ++ row 8 2 2 1 0 0 ++ row 2 3 0 0 0 0)

@@ -153,10 +153,10 @@ abbrev pub framed : ℕ → ℕ → Reading → Reading
 framed place size (right t next) = right (foreign foreignOwn t) (place + size)
 framed place size (wrong e p) = right (damaged (damagedOwn place size (refusalNumber e))) (place + size)
 
--- "A foreign body is read as a document of its own, under the registry in force around it.": how many entries are in force in it, of those
--- around it; they are the first ones
+-- "A foreign body is read as a document of its own", and "no registry is in force at the start of a foreign body" (request §2): how many entries
+-- are in force there, of those around it
 unfoldable pub inForeign : ℕ → ℕ
-inForeign around = around
+inForeign around = 0
 
 -- by what stands at the position, with `around` entries in force; R reads one level down
 unfoldable pub step : Reader → List ℕ → ℕ → ℕ → ℕ → Head → Reading

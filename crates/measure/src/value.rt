@@ -94,8 +94,8 @@ fn measure_framed(s: &[u8], place: usize, size: usize, levels: usize, around: us
     ensures { λ r. ⌜ r ≡ told (measuredOf (framed place size (whole (place + size) (value levels (now (s .entry)) (inForeign around) place (place + size))))) ⌝ }
 {
     let end = place + size;
-    let inside = measure_value(s, place, end, levels, format::in_foreign(around));
-    let f = ended(inside, end);
+    let inside = format::in_foreign(around);
+    let f = ended(measure_value(s, place, end, levels, inside), end);
     if WRONG <= f {
         return right(1, end, true);
     }

@@ -52,7 +52,7 @@ front zero xs = nil
 front (suc k) nil = nil
 front (suc k) (cons x xs) = cons x (front k xs)
 
--- "A foreign body is read as a document of its own, under the registry in force around it.": the entries in force in it, of those around it
+-- "no registry is in force at the start of a foreign body" (request §2): the entries in force there, of those around it
 abbrev pub forBody : Spots → Spots
 forBody force = front (inForeign (length (spotRows force))) force
 

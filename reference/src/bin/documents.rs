@@ -40,6 +40,7 @@ fn documents() -> Documents {
     documents.extend(texts());
     documents.extend(references());
     documents.extend(foreign());
+    documents.extend(alone());
     documents.extend(depths());
     documents.extend(full_tables());
     documents.extend(random_documents());
@@ -315,6 +316,17 @@ fn foreign() -> Documents {
         documents.push([&[0x0d, 0x00, 0x06, 0x0d, 0x00, size], &[0x81, 0x61, 0x62][..]].concat());
     }
     documents
+}
+
+/// Request §2: what is in force around a foreign body is not in force in it; a document inlined without the header sees
+/// it.
+fn alone() -> Documents {
+    let lines = "0d 0d 01 44 0d 00 01 c1|0d 0d 01 44 0d 00 02 a0 c1|0d 0d 04 40 41 42 43 0d 00 01 c4|0d 0d 01 44 b0 01 6b 0d 00 01 c1|\
+        0d 0d 01 44 b8 0d 00 01 c1 c1|0d 0d 01 44 0d 00 05 0d 0d 01 45 c1|0d 0d 01 44 a1 0d 00 05 0d 0d 01 45 c1 c1|\
+        0d 0d 02 44 45 0d 00 05 0d 0d 01 46 c2|0d 00 08 0d 0d 01 44 0d 00 01 c1|0d 00 0c 0d 0d 01 44 0d 00 05 0d 0d 01 45 c1|\
+        0d 0d 02 44 0d 00 01 c1 02|0d 0d 02 44 0d 00 05 0d 0d 01 45 c1 c2|0d 0d 02 44 0d 0d 01 0d 00 01 c1 c1 c2|\
+        0d 0d 01 44 c1|0d 0d 01 44 a1 c1 c1|0d 0d 01 44 0d 0d 01 45 c1";
+    lines.split('|').map(bytes).collect()
 }
 
 /// Nesting of every kind to depth 31, 32 and 33, with each sort of leaf at the bottom.

@@ -13,7 +13,7 @@ pub fn rows(document: &[u8]) -> Result<Vec<Row>, (u32, Place)> {
         return Err((1, 0));
     }
     let mut rows = Vec::new();
-    whole(document, 0, 0, &[], &mut rows)?;
+    whole(document, 0, 0, &mut rows)?;
     Ok(rows)
 }
 
@@ -34,8 +34,8 @@ pub fn fill(document: &[u8], words: usize) -> (Result<usize, (u32, usize)>, Vec<
     (answer, table)
 }
 
-fn whole(data: &[u8], at: Place, depth: u32, entries: &[usize], rows: &mut Vec<Row>) -> Result<(), (u32, Place)> {
-    match value(data, at, depth, entries, rows)? {
+fn whole(data: &[u8], at: Place, depth: u32, rows: &mut Vec<Row>) -> Result<(), (u32, Place)> {
+    match value(data, at, depth, &[], rows)? {
         next if next == data.len() => Ok(()),
         next => Err((10, next)),
     }
@@ -116,7 +116,7 @@ fn value(data: &[u8], at: Place, depth: u32, entries: &[usize], rows: &mut Vec<R
         Inside::Body(size) => {
             let place = next;
             next += size;
-            if let Err((verdict, _)) = whole(&data[..next], place, depth + 1, entries, rows) {
+            if let Err((verdict, _)) = whole(&data[..next], place, depth + 1, rows) {
                 rows.truncate(own + 1);
                 rows[own] = [16, 0, place as u32, size as u32, verdict, 0];
             }

@@ -1,10 +1,11 @@
-//! Documents: random trees in any forms, changed, cut, deep, at the edges of their forms, and noise.
+//! Documents: random trees in any forms, changed, cut, deep, at the edges of their forms, with foreign bodies that refer
+//! to what is around them, and noise.
 
 use reference::generate::{changed, longer, noise, shortest, tree, Node, Random};
 
 /// A document, right or not.
 pub fn document(random: &mut Random) -> Vec<u8> {
-    let bytes = match random.below(16) {
+    let bytes = match random.below(17) {
         0..=6 => encoded(&any_tree(random), random),
         7 => encoded(&deep(random), random),
         8 => encoded(&edge(random), random),
@@ -13,6 +14,7 @@ pub fn document(random: &mut Random) -> Vec<u8> {
         12 => cut(&any_bytes(random), random),
         13 => spliced(random),
         14 => texts(random),
+        15 => encoded(&outside(random), random),
         _ => {
             let size = random.below(40);
             random.bytes(size)
@@ -52,6 +54,24 @@ fn spliced(random: &mut Random) -> Vec<u8> {
     let (front, rear) = (any_bytes(random), any_bytes(random));
     let from = random.below(rear.len() + 1);
     [&cut(&front, random), &rear[from..]].concat()
+}
+
+/// Request §2: entries, and a foreign body that may refer to them. It is damaged then.
+fn outside(random: &mut Random) -> Node {
+    let entries = 1 + random.below(4) as u32;
+    let mut rows = 6;
+    let body = Node::Foreign(Box::new(tree(random, 2, entries, &mut rows)));
+    match random.below(3) {
+        0 => Node::Declaration(vec![Node::True; entries as usize], Box::new(body)),
+        1 => Node::Declaration([vec![Node::True; entries as usize], vec![body]].concat(), Box::new(Node::None)),
+        _ => {
+            let within = Node::Declaration(vec![Node::None], Box::new(Node::Array(vec![body, Node::Reference(0)])));
+            Node::Declaration(
+                vec![Node::True; entries as usize],
+                Box::new(Node::Array(vec![within, Node::Reference(0)])),
+            )
+        }
+    }
 }
 
 /// A chain of holders that ends near the deepest position.

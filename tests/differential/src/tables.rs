@@ -11,7 +11,8 @@ pub struct Table {
     pub data: Vec<u8>,
 }
 
-/// A right table whose payloads lie anywhere in the data, one over another and in any order.
+/// A table whose payloads lie anywhere in the data, one over another and in any order. It is right, unless a foreign
+/// body in it refers to what is around it.
 pub fn made(random: &mut Random) -> Table {
     let mut maker = Maker { random, words: Vec::new(), data: Vec::new(), parts: Vec::new(), damaged: Vec::new() };
     maker.lay_data();
@@ -153,7 +154,9 @@ impl Maker<'_> {
                 return (kind::DECLARATION, [count as u32, 0, 0, 0]);
             }
             _ => {
-                self.value(depth, entries, rows);
+                // no entry around a body is seen in it; now and then it refers to one, and the table is bad
+                let seen = if self.random.below(6) == 0 { entries } else { &[] };
+                self.value(depth, seen, rows);
                 return (kind::FOREIGN, [0; 4]);
             }
         };

@@ -248,7 +248,7 @@ fn longest() -> Cases {
 /// A place for a row: the table around it, and the rows of the entries in force there.
 type Around = (fn(Vec<Row>) -> Vec<Row>, &'static [u32]);
 
-const IN_FORCE: [Around; 16] = [
+const IN_FORCE: [Around; 21] = [
     (|row| row, &[]),
     (|row| array(&[row]), &[]),
     (|row| declare(&[none()], row), &[1]),
@@ -258,7 +258,6 @@ const IN_FORCE: [Around; 16] = [
     (|row| declare(&[array(&[none()]), none()], row), &[1, 3]),
     (|row| declare(&[none(), none()], holder(kind::RECORD, &[key(0, 0), row])), &[1, 2]),
     (|row| declare(&[none()], holder(kind::MAP, &[row, none()])), &[1]),
-    (|row| declare(&[none()], holder(kind::FOREIGN, &[row])), &[1]),
     (|row| declare(&[none(), none(), none()], array(&[none(), row])), &[1, 2, 3]),
     // In a declaration inside another, nothing of the outer one is in force; behind it, the outer one is.
     (|row| declare(&[none(), none()], declare(&[none()], row)), &[4]),
@@ -266,7 +265,19 @@ const IN_FORCE: [Around; 16] = [
     (|row| declare(&[none(), declare(&[row], none())], none()), &[]),
     (|row| declare(&[none()], array(&[declare(&[none(), none()], none()), row])), &[1]),
     (|row| declare(&[declare(&[none()], none()), none()], row), &[1, 4]),
+    // Request §2: in a foreign body nothing around it is in force, be it in an entry or in another body; what it
+    // declares is.
+    (|row| declare(&[none()], foreign(row)), &[]),
+    (|row| declare(&[none(), foreign(row)], none()), &[]),
+    (|row| foreign(declare(&[none()], foreign(row))), &[]),
+    (|row| declare(&[none()], foreign(foreign(row))), &[]),
+    (|row| declare(&[none()], foreign(declare(&[none()], row))), &[4]),
+    (|row| declare(&[none()], array(&[foreign(none()), row])), &[1]),
 ];
+
+fn foreign(body: Vec<Row>) -> Vec<Row> {
+    holder(kind::FOREIGN, &[body])
+}
 
 /// A reference is right with exactly the numbers in force, each with its entry's row.
 fn references() -> Cases {
@@ -294,19 +305,16 @@ fn references() -> Cases {
     cases
 }
 
-/// A damaged body is judged under the entries in force where it stands.
+/// Request §2: a body that refers to what it has not declared itself is damaged, whatever is in force where it stands.
 fn verdicts_in_force() -> Cases {
     let mut cases = Vec::new();
     for (around, entries) in IN_FORCE {
-        let force = entries.len() as u8;
-        for number in 0..=force + 1 {
-            // A reference alone, in an array, and with a byte behind it; with what reading gives under its entry.
+        for number in 0..=entries.len() as u8 {
+            // A reference alone, in an array, and with a byte behind it; with what reading would give under its entry.
             let data = [0xc1 + number, 0x02, 0xa1, 0x02, 0xc1 + number];
             for (place, size, in_force) in [(0, 1, 0), (2, 3, 0), (0, 2, 10)] {
-                let read = if number < force { in_force } else { 7 };
-                for verdict in [0, 2, 7, 10] {
-                    let right = read != 0 && verdict == read;
-                    cases.push(Case::new(&around(damaged(place, size, verdict)), &data, right));
+                for verdict in [in_force, 7] {
+                    cases.push(Case::new(&around(damaged(place, size, verdict)), &data, verdict == 7));
                 }
             }
         }

@@ -68,6 +68,7 @@ pub fn holders() -> Vec<Vec<u8>> {
         0d 0d 01 0d 0d 01 02 c1 c1|0d 0d 02 01 02 a1 0d 0d 01 00 c1 c2|0d 0d 01 a0 02 b0 01 6b c1|0d 0d 01 02 b8 c1 c1|\
         0d 0d 03 00 c1 c2 a2 c3 c2 c1|a1 0d 0d 01 02 c1 0d 0d 01 01 c1|\
         0d 00 01 02|0d 00 02 a0 02|a1 0d 00 01 02 01|0d 00 04 0d 00 01 02|0d 0d 01 44 0d 00 01 c1|\
+        0d 0d 01 44 a1 0d 00 05 0d 0d 01 45 c1 c1|0d 00 0c 0d 0d 01 44 0d 00 05 0d 0d 01 45 c1|\
         0d 0d 02 0d 00 01 02 0d 00 01 c1 c2|b0 01 6b 0d 00 03 a1 02 01|a1 0d 00 02 81 61 01|0d 0d 01 0d 00 01 c1 c1";
     lines.split('|').map(bytes).collect()
 }

@@ -52,7 +52,8 @@ fn nested() -> Vec<Vec<u8>> {
     let lines = "0d 0d 01 0d 0d 01 44 c1 c1|0d 0d 01 02 0d 0d 01 44 c1|0d 0d 02 0d 0d 01 44 c1 c1 c2|\
         0d 0d 02 0d 0d 02 44 c1 c2 0d 0d 01 02 c1 c2|0d 0d 01 a1 0d 0d 01 44 c1 02 a1 c1 0d 0d 01 80 6b c1|\
         0d 0d 02 44 a1 c1 0d 0d 01 02 c1 b0 01 6b c2|0d 0d 01 0d 00 05 0d 0d 01 44 c1 a1 c1 0d 00 01 c1|\
-        0d 0d 03 02 c1 0d 0d 02 01 c1 c2 b8 c3 c2|0d 0d 02 a0 02 0d 00 01 c1 a2 c2 c1 0d 0d 01 0d 00 00 c1";
+        0d 0d 03 02 c1 0d 0d 02 01 c1 c2 b8 c3 c2|0d 0d 02 a0 02 0d 00 01 c1 a2 c2 c1 0d 0d 01 0d 00 00 c1|\
+        0d 0d 02 a0 02 0d 00 05 0d 0d 01 44 c1 a1 c2 c1|0d 0d 01 44 0d 00 0d 0d 0d 02 45 c1 0d 00 05 0d 0d 01 46 c1";
     let mut documents: Vec<Vec<u8>> = lines.split('|').map(bytes).collect();
     for levels in [2, 5, 31, 32] {
         documents.push([bytes("0d 0d 01 44").repeat(levels - 1), bytes("0d 0d 02 44 c1 c2")].concat());

@@ -41,7 +41,7 @@ const INTEGERS: [(u32, i128, &str); 6] = [
 ];
 
 /// Documents as they are read, and as they are written.
-const READ: [(&str, &str); 18] = [
+const READ: [(&str, &str); 20] = [
     ("02", "02"),
     ("20", "20"),
     ("3f", "3f"),
@@ -56,6 +56,8 @@ const READ: [(&str, &str); 18] = [
     ("a1 0d 00 02 81 61 01", "a1 0d 00 02 81 61 01"),
     ("0d 00 02 02 02", "0d 00 02 02 02"),
     ("0d 0d 01 44 0d 00 01 c1", "0d 0d 01 44 0d 00 01 c1"),
+    ("0d 0d 01 44 0d 00 05 0d 0d 01 45 c1", "0d 0d 01 44 0d 00 05 0d 0d 01 45 c1"),
+    ("0d 0d 01 44 0d 00 06 0d 0d 01 18 40 c1", "0d 0d 01 44 0d 00 05 0d 0d 01 7f c1"),
     ("c0 ff d7 00", "c0 ff d7 00"),
     ("c0 ff ff 10", "c0 ff ff 10"),
     ("0d 0d 02 44 c1 c2", "0d 0d 02 44 c1 c2"),

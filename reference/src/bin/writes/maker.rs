@@ -44,7 +44,7 @@ impl Made {
                 }
                 self.value(value, &before);
             }
-            Node::Foreign(value) => self.value(value, entries),
+            Node::Foreign(value) => self.value(value, &[]),
             _ => {}
         }
         self.ends(own);
