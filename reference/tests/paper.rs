@@ -1,4 +1,4 @@
-//! Every example of the paper, and the readings decided for its open places.
+//! Every example of the paper and of the requests that have landed, and the readings decided for open places.
 
 use reference::check::check;
 use reference::fill::fill;

@@ -197,13 +197,14 @@ module _ (table : List ℕ) (n first k row : ℕ) (ready : EntriesBefore table n
   pub ready-lent : row ≤ lent table
   ready-lent = omega (arith, ready .room, ready .here)
 
-  pub whole-asks : (m : ℕ) → m ≤ k → row < n → EntriesBefore table n first m (row + 1)
-  whole-asks m f h =
+  -- below the row, with m of the entries in force
+  pub under : (m : ℕ) → m ≤ k → row < n → EntriesBefore table n first m (row + 1)
+  under m f h =
       record { room = ready .room; few = ready .few; here = omega arith; below = below-fewer table first k m row (row + 1) (ready .below) (omega arith) (omega arith) }
 
   pub hold-asks : (h : Holder) (c : Children) → c ≡ childrenOf h → row < n → EntriesBeforeChild table n first k c 0 (row + 1)
   hold-asks h c e l =
-      rw e record { before = subst (λ (x : ℕ). EntriesBefore table n first x (row + 1)) (sym (around-force h k 0)) (whole-asks k (omega arith) l); linked = λ q. absurd (let z : _≡_ {A = ℕ} 0 1 = cc (no-entry h) in omega arith) }
+      rw e record { before = subst (λ (x : ℕ). EntriesBefore table n first x (row + 1)) (sym (around-force h k 0)) (under k (omega arith) l); linked = λ q. absurd (let z : _≡_ {A = ℕ} 0 1 = cc (no-entry h) in omega arith) }
 
 entries-ready : (table : List ℕ) (n row : ℕ) → n ≤ lent table → n ≤ limit → row ≤ n → EntriesBeforeChild table n row 0 Entries 0 row
 entries-ready table n row a b c = record { before = record { room = a; few = b; here = c; below = below-none table row row }; linked = λ q. sym (walk-start table row) }

@@ -34,8 +34,8 @@ use Rattle.rules.proofs.Read.{force-next}
 use Rattle.encode.specs.Encode.{holderCount, headFor, headOf, hasBytes, encode, encodes}
 use Rattle.encode.proofs.Places.{movedIf, damaged-named}
 use Rattle.encode.proofs.Placed.{placed, placeds}
-use Rattle.encode.proofs.Further.{readingFurther}
-use Rattle.encode.proofs.Elsewhere.{whole-alone, further-wrong}
+use Rattle.encode.specs.Further.{readingFurther}
+use Rattle.encode.proofs.Elsewhere.{whole-elsewhere, further-wrong}
 use Rattle.encode.proofs.Fronts.{Stand, stand-first, stand-second, array-front, record-front, map-front, reference-front, declaration-front, foreign-front}
 use Rattle.encode.proofs.Leaves.{payload-few, payload-there, key-back}
 use Rattle.encode.proofs.Back.{spelling, span-placed, part-long, leaf-back}
@@ -83,8 +83,8 @@ foreign-head size = refl
 damaged-alike : (d k : ℕ) (s s′ : List ℕ) (p q n : ℕ) → take n (drop p s′) ≡ take n (drop q s) → (e : Refusal) (place : ℕ) → whole (q + n) (value d s k q (q + n)) ≡ wrong e place
     → (place′ : ℕ) × (whole (p + n) (value d s′ k p (p + n)) ≡ wrong e place′)
 damaged-alike d k s s′ p q n same e place v =
-    let u = further-wrong q (body (take n (drop q s))) e place (sym (whole-alone d s q n k) ∙ v) in
-    (p + u .0, whole-alone d s′ p n k ∙ ap (λ (l : List ℕ). readingFurther p (body l)) same ∙ ap (readingFurther p) (u .1))
+    let u = further-wrong q (body (take n (drop q s))) e place (sym (whole-elsewhere d s q n k) ∙ v) in
+    (p + u .0, whole-elsewhere d s′ p n k ∙ ap (λ (l : List ℕ). readingFurther p (body l)) same ∙ ap (readingFurther p) (u .1))
   where
     body : List ℕ → Reading
     body l = whole n (value d l k 0 n)

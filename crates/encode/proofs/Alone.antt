@@ -5,7 +5,7 @@ use mathlib.Core.Path.{_≡_, refl, sym, ap, ap₂, _∙_, subst}
 use Prim.Native.Nat.{ℕ, zero, suc, _+_, _-_, _*_, _≤_, _<_}
 use native.Mathlib.Omega.{arith}
 use native.Mathlib.Nat.{add-zero, zero-add}
-use mathlib.Core.Bool.{Bool, true, false, cond}
+use mathlib.Core.Bool.{Bool, true, false}
 use mathlib.Core.List.{List, [], _∷_, _++_, append-assoc, append-nil, map, map-append}
 use lib.ListN.{length, getD, take, drop}
 use lib.Seq.{take-all}
@@ -34,37 +34,33 @@ use Rattle.rules.specs.declared.shape.Shape.the-variants as shape
 use Rattle.rules.specs.Shape.{named, shapeFor, shapeOf, keyFits}
 use Rattle.rules.specs.Obeys.{Spoilt, KeyObeys, IfKey, after, Obeys, ObeyAll, Stands}
 use Rattle.rules.proofs.Says.{key-kind, refer-own, hold-own, declare-own, foreign-own, damaged-own, damaged-inside}
-use Rattle.rules.proofs.Levels as levels
+use Rattle.rules.proofs.Levels.{down as less-one}
 use Rattle.rules.proofs.Growth.{length-grown, length-entries}
 use Rattle.rules.proofs.Read.{document-fine}
 use Rattle.encode.specs.Encode.{hasBytes, moved}
 use Rattle.encode.proofs.Places.{movedIf, moved-kind}
-use Rattle.encode.proofs.Further.{ownFurther, treeFurther, treesFurther, readingFurther, aimFurther, rowFurther, rowsFurther}
-use Rattle.encode.proofs.Elsewhere.{whole-alone, further-wrong}
+use Rattle.encode.specs.Further.{bodyAlone, ownFurther, treeFurther, treesFurther, readingFurther, aimFurther, rowFurther, rowsFurther}
+use Rattle.encode.proofs.Elsewhere.{whole-elsewhere, further-wrong}
 use Rattle.encode.proofs.Back.{part-long}
 use Rattle.encode.proofs.Again.{told-of}
 
 -- ---- what it reads as
 
--- what a body of these bytes reads as, with `levels` levels left
-abbrev pub alone : ℕ → List ℕ → Reading
-alone levels b = whole (length b) (value levels b 0 0 (length b))
-
--- with one level more than the depth, that is a document
-pub document-alone : (depth : ℕ) (b : List ℕ) → document depth b ≡ alone (suc depth) b
+-- of a document it is that with one level more than its depth
+pub document-alone : (depth : ℕ) (b : List ℕ) → document depth b ≡ bodyAlone (suc depth) b
 unfolding document
 document-alone depth b = refl
 
 -- a foreign body, wherever it stands and whatever is in force there
 pub body-alone : (levels : ℕ) (s : List ℕ) (around place n : ℕ) → place + n ≤ length s
-    → whole (place + n) (value levels s (inForeign around) place (place + n)) ≡ readingFurther place (alone levels (take n (drop place s)))
+    → whole (place + n) (value levels s (inForeign around) place (place + n)) ≡ readingFurther place (bodyAlone levels (take n (drop place s)))
 body-alone levels s around place n l =
-    ap (λ (k : ℕ). whole (place + n) (value levels s k place (place + n))) (in-foreign-none around) ∙ whole-alone levels s place n 0
+    ap (λ (k : ℕ). whole (place + n) (value levels s k place (place + n))) (in-foreign-none around) ∙ whole-elsewhere levels s place n 0
     ∙ ap (λ (m : ℕ). readingFurther place (whole m (value levels (take n (drop place s)) 0 0 m))) (sym (part-long s place n l))
 
 -- a position that holds a foreign body
 pub foreign-alone : (levels : ℕ) (s : List ℕ) (around at stop place n : ℕ) → stop ≤ length s → headAt s at stop ≡ Foreign place n
-    → value (suc levels) s around at stop ≡ framed place n (readingFurther place (alone levels (take n (drop place s))))
+    → value (suc levels) s around at stop ≡ framed place n (readingFurther place (bodyAlone levels (take n (drop place s))))
 foreign-alone levels s around at stop place n l e =
     let w : Stood s at stop (Foreign place n) = subst (Stood s at stop) e (head-stood s at stop) in
     clauses.value-foreign levels s around at stop (headAt s at stop) refl place n e ∙ ap (framed place n) (body-alone levels s around place n (omega (arith, w .within)))
@@ -113,8 +109,7 @@ row-further down by n w rest = refl
 
 -- a row that is no reference says no row but its end
 aim-still : (down by : ℕ) (o : Own) → eqb (o .kind) kindReference ≡ false → aimFurther down (ownFurther by o) ≡ ownFurther by o
-aim-still down by o e =
-    ap (λ (k : ℕ). cond (eqb k kindReference) (aimed (ownFurther by o) (down + ownFurther by o .w1)) (ownFurther by o)) (moved-kind o (by + o .w0)) ∙ rw e refl
+aim-still down by o e = let q : eqb (ownFurther by o .kind) kindReference ≡ false = ap (λ (k : ℕ). eqb k kindReference) (moved-kind o (by + o .w0)) ∙ e in rw q refl
 
 -- by what a row is
 module _ (down by : ℕ) (s : List ℕ) (o : Own) where
@@ -258,14 +253,14 @@ rows-alone s d t f by row registry =
     ap (layout (treeFurther by t) row) (body-none registry)
     ∙ sym (ap₂ (rowsFurther row by) (sym (add-zero (size t))) (sym (append-nil (layout t 0 []))) ∙ moves row by s t d 0 0 row 0 [] [] [] f refl (sym (add-zero row)) refl ∙ append-nil (layout (treeFurther by t) row []))
 
--- "same rows with row numbers and places moved" (request §14): a foreign document whose bytes, alone, read as t
-pub foreign-rows : (depth : ℕ) (b : List ℕ) (t : Tree) (next : ℕ) → document depth b ≡ right t next → (place row : ℕ) (registry : List ℕ)
+-- "same rows with row numbers and places moved" (request §14): the rows of a foreign document whose bytes read alone as t, its own row first
+pub foreign-moved : (depth : ℕ) (b : List ℕ) (t : Tree) (next : ℕ) → bodyAlone (suc depth) b ≡ right t next → (place row : ℕ) (registry : List ℕ)
     → layout (foreign foreignOwn (treeFurther place t)) row registry
     ≡ wordsOf (rowOf foreignOwn (row + (1 + size t))) ++ rowsFurther (row + 1) place (size t) (layout t 0 [])
 unfolding layout
-foreign-rows depth b t next e place row registry =
+foreign-moved depth b t next e place row registry =
     ap₂ (λ (n : ℕ) (l : List ℕ). wordsOf (rowOf foreignOwn (row + (1 + n))) ++ l) (size-further place t)
-    (rows-alone b (suc depth) t (document-fine depth b t next e) place (row + 1) registry)
+    (rows-alone b (suc depth) t (document-fine depth b t next (document-alone depth b ∙ e)) place (row + 1) registry)
 
 -- ---- in a table by any maker
 
@@ -291,14 +286,14 @@ mutual
   trees-here none = refl
   trees-here (more t ts) = ap₂ more (tree-here t) (trees-here ts)
 
--- the rows of a right foreign document, whatever is around it, are those that it has at row 0 with nothing around it, moved
+-- the rows below a right foreign document, whatever is around it, are those that they are at row 0 with nothing around them, moved
 pub body-rows : (s : List ℕ) (d k : ℕ) (o : Own) (t : Tree) → Obeys s d k (foreign o t) → (row : ℕ) (registry : List ℕ)
     → layout t row (inBody registry) ≡ rowsFurther row 0 (size t) (layout t 0 [])
 unfolding Obeys
 body-rows s d k o t f row registry =
     ap (λ (u : Tree). layout u row (inBody registry)) (sym (tree-here t)) ∙ rows-alone s (d - 1) t (subst (λ (i : ℕ). Obeys s (d - 1) i t) (in-foreign-none k) (f .2)) 0 row registry
 
--- and these are a table of its own over the same data
+-- and these are a table of their own over the same data
 pub body-stands : (depth : ℕ) (s : List ℕ) (k : ℕ) (o : Own) (t : Tree) → Obeys s (suc (suc depth)) k (foreign o t) → length s ≤ limit → size t ≤ limit
     → Stands depth (layout t 0 []) (size t) s t
 unfolding Obeys
@@ -311,7 +306,7 @@ body-stands depth s k o t f l few =
       short = l;
       rows = refl;
       words = take-all (wordsPerRow * size t) (layout t 0 []) (omega arith);
-      obeys = subst (λ (i : ℕ). Obeys s (suc depth) i t) (in-foreign-none k) (subst (λ (d : ℕ). Obeys s d (inForeign k) t) (levels.down (suc depth)) (f .2));
+      obeys = subst (λ (i : ℕ). Obeys s (suc depth) i t) (in-foreign-none k) (subst (λ (d : ℕ). Obeys s d (inForeign k) t) (less-one (suc depth)) (f .2));
     }
 
 -- ---- what is in force around it plays no part in whether it obeys the rules
@@ -326,10 +321,10 @@ damaged-anywhere s d k k′ o f = (f .0, f .1, subst (λ (i : ℕ). Spoilt s (d 
 
 -- and the verdict of a damaged one is why its bytes alone are refused
 pub damaged-alone : (s : List ℕ) (d k : ℕ) (o : Own) → Obeys s d k (damaged o)
-    → (e : Refusal) × (place : ℕ) × (alone (d - 1) (take (o .w1) (drop (o .w0) s)) ≡ wrong e place) × (o .w2 ≡ refusalNumber e)
+    → (e : Refusal) × (place : ℕ) × (bodyAlone (d - 1) (take (o .w1) (drop (o .w0) s)) ≡ wrong e place) × (o .w2 ≡ refusalNumber e)
 unfolding Obeys
 damaged-alone s d k o f =
     let v = f .2 in
-    let b : Reading = alone (d - 1) (take (o .w1) (drop (o .w0) s)) in
+    let b : Reading = bodyAlone (d - 1) (take (o .w1) (drop (o .w0) s)) in
     let u = further-wrong (o .w0) b (v .why) (v .place) (sym (body-alone (d - 1) s k (o .w0) (o .w1) (damaged-inside s o (f .1))) ∙ v .reads) in
     (v .why, u .0, u .1, v .verdict)

@@ -1,5 +1,4 @@
 -- Laws that belong to no one function.
-pub mod Further
 pub mod Elsewhere
 pub mod Places
 pub mod Fronts

@@ -1,4 +1,4 @@
--- A row with its payload at another place: it is of the same kind, and all but the place stays; and the kind of a damaged body's. Assumes nothing.
+-- A row with its payload at another place: it is of the same kind, and all but the place stays. And what a damaged row's kind is named. Assumes nothing.
 use mathlib.Core.Path.{_≡_, refl, ap, _∙_}
 use Prim.Native.Nat.{ℕ}
 use mathlib.Core.Bool.{Bool, true, false, cond}

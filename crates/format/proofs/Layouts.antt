@@ -1,5 +1,5 @@
--- Laws of a holder's children, and of the words of a tree's rows: how many they are, where they end, and that they may be laid in parts, a holder's own row last.
--- Assumes nothing.
+-- Laws of a holder's children, of what is in force in a foreign body, and of the words of a tree's rows: how many they are, where they end, and
+-- that they may be laid in parts, a holder's own row last. Assumes nothing.
 use mathlib.Core.Path.{_≡_, refl, sym, ap, _∙_}
 use Prim.Native.Nat.{ℕ, zero, suc, _+_, _-_, _*_, _≤_, _<_}
 use native.Mathlib.Nat.{add-zero}
@@ -44,11 +44,11 @@ pub in-foreign-none : (k : ℕ) → inForeign k ≡ 0
 unfolding inForeign
 in-foreign-none k = refl
 
--- nor their rows
+-- and so no row of theirs
 pub body-none : (registry : List ℕ) → inBody registry ≡ []
 body-none registry = ap (λ (k : ℕ). take k registry) (in-foreign-none (length registry))
 
--- their rows are so many
+-- there are as many rows as entries
 pub length-body : (registry : List ℕ) → length (inBody registry) ≡ inForeign (length registry)
 length-body registry = length-take-le (inForeign (length registry)) registry (in-foreign-few (length registry))
 

@@ -1,4 +1,4 @@
--- The paper's starred cases that speak of reading, the slips that it names, and the cases of request §2. Assumes nothing: these are definitions.
+-- The paper's starred cases that speak of reading, the slips that it names, and three cases of request §2. Assumes nothing: these are definitions.
 use Prim.Native.Nat.{ℕ, zero, suc, _*_}
 use mathlib.Core.List.{List, [], _∷_, _++_}
 use lib.ListN.{replicate}
@@ -75,7 +75,7 @@ starred =
     ∷ refused (0xc0 ∷ 0x00 ∷ 0x00 ∷ 0x11 ∷ []) (Refused why.Char 0)
     ∷ []
 
--- "Slips that look right", the order of refusals at one position, kinds that no starred case has, and the cases of request §2
+-- "Slips that look right", the order of refusals at one position, kinds that no starred case has, and three cases of request §2
 unfoldable pub slips : List Case
 slips =
     -- "Taking a table that ran full inside a foreign body as a damaged body."

@@ -47,7 +47,7 @@ const PAPER: [&[u8]; 36] = [
     &[0x0d, 0x0d, 0x02, 0x44, 0x0d, 0x00, 0x01, 0xc1, 0x02],
 ];
 
-/// The paper's documents, each as one input.
+/// These documents, each as one input.
 pub fn paper(folder: &str) {
     let deep = [32, 33].map(|levels| [&vec![0xa0; levels][..], &[0x02]].concat());
     let documents = PAPER.iter().copied().chain(deep.iter().map(Vec::as_slice));

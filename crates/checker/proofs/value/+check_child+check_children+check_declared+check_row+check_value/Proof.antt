@@ -2,7 +2,7 @@
 -- level the way from a row to its children to one child. A law of Checks answers each way out. Assumes nothing.
 use Prim.Native.Nat.{ℕ, _+_, _*_, _-_, _<_}
 use borrow.Author.Needs.{needs}
-use Rattle.checker.proofs.Checks.{alone-fits, child-alone, child-asks, child-based, child-key, child-value, damaged-inside, declared-broken, declared-until, entries-ask, entries-based, going-all, going-first, going-next, going-broken, going-ready, Going, hold-asks, hold-based, own-asks, own-based, own-under, row-bad, row-damaged, row-declare, row-hold, row-leaf, row-refer, row-whole, ready-few, ready-lent, ready-room, value-deep, value-based, value-in, value-out, whole-asks, whole-few}
+use Rattle.checker.proofs.Checks.{alone-fits, child-alone, child-asks, child-based, child-key, child-value, damaged-inside, declared-broken, declared-until, entries-ask, entries-based, going-all, going-first, going-next, going-broken, going-ready, Going, hold-asks, hold-based, own-asks, own-based, own-under, row-bad, row-damaged, row-declare, row-hold, row-leaf, row-refer, row-whole, ready-few, ready-lent, ready-room, value-deep, value-based, value-in, value-out, under, whole-few}
 use Rattle.registry.proofs.Walks.{based-fewer}
 use borrow.Fn.Kinds.{In}
 use borrow.Fn.PlainCycle.{Measures, is, falls, and}
@@ -224,7 +224,7 @@ pub +check-child+check-children+check-declared+check-row+check-value-spec :
     (λ c. search needs)
     (λ c. search needs)
     (λ c κs. search needs)
-    (λ c κs. (search needs, (search (whole-asks, whole-few, needs), search (based-fewer, whole-few, needs), search needs)))
+    (λ c κs. (search needs, (search (under, whole-few, needs), search (based-fewer, whole-few, needs), search needs)))
     (λ c. search needs)
     (λ c κs. (search needs, search damaged-inside, search needs))
     (λ c. search row-bad)
