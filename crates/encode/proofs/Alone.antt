@@ -14,8 +14,9 @@ use borrow.Author.Tests.{eqb-true}
 use Rattle.wide.proofs.Ranks.{bool-case}
 use Rattle.rows.specs.declared.row.Row.{Row}
 use Rattle.rows.specs.Table.{wordsPerRow, Own, rowOf, aimed, wordsOf, rowAt, limit}
-use Rattle.rows.specs.Kinds.{kindReference, holderOwn, foreignOwn}
+use Rattle.rows.specs.Kinds.{kindReference, holderOwn, foreignOwn, damagedOwn}
 use Rattle.format.specs.declared.refusal.Refusal.{Refusal}
+use Rattle.format.specs.declared.refusal.Refusal.the-variants as why
 use Rattle.format.specs.declared.head.Head.the-variants.{Foreign}
 use Rattle.format.specs.declared.head.Holder.{Holder}
 use Rattle.format.specs.declared.head.Holder.the-variants.{Array, Record, Map}
@@ -39,31 +40,33 @@ use Rattle.rules.proofs.Growth.{length-grown, length-entries}
 use Rattle.rules.proofs.Read.{document-fine}
 use Rattle.encode.specs.Encode.{hasBytes, moved}
 use Rattle.encode.proofs.Places.{movedIf, moved-kind}
-use Rattle.encode.specs.Further.{bodyAlone, ownFurther, treeFurther, treesFurther, readingFurther, aimFurther, rowFurther, rowsFurther}
+use Rattle.encode.specs.Further.{ownFurther, treeFurther, treesFurther, readingFurther, aimFurther, rowFurther, rowsFurther}
 use Rattle.encode.proofs.Elsewhere.{whole-elsewhere, further-wrong}
 use Rattle.encode.proofs.Back.{part-long}
 use Rattle.encode.proofs.Again.{told-of}
 
 -- ---- what it reads as
 
--- of a document it is that with one level more than its depth
-pub document-alone : (depth : ℕ) (b : List ℕ) → document depth b ≡ bodyAlone (suc depth) b
+-- a foreign body with a level left, wherever it stands and whatever is in force there, is the document that its bytes are
+pub body-alone : (depth : ℕ) (s : List ℕ) (around place n : ℕ) → place + n ≤ length s
+    → whole (place + n) (value (suc depth) s (inForeign around) place (place + n)) ≡ readingFurther place (document depth (take n (drop place s)))
 unfolding document
-document-alone depth b = refl
+body-alone depth s around place n l =
+    ap (λ (k : ℕ). whole (place + n) (value (suc depth) s k place (place + n))) (in-foreign-none around) ∙ whole-elsewhere (suc depth) s place n 0
+    ∙ ap (λ (m : ℕ). readingFurther place (whole m (value (suc depth) (take n (drop place s)) 0 0 m))) (sym (part-long s place n l))
 
--- a foreign body, wherever it stands and whatever is in force there
-pub body-alone : (levels : ℕ) (s : List ℕ) (around place n : ℕ) → place + n ≤ length s
-    → whole (place + n) (value levels s (inForeign around) place (place + n)) ≡ readingFurther place (bodyAlone levels (take n (drop place s)))
-body-alone levels s around place n l =
-    ap (λ (k : ℕ). whole (place + n) (value levels s k place (place + n))) (in-foreign-none around) ∙ whole-elsewhere levels s place n 0
-    ∙ ap (λ (m : ℕ). readingFurther place (whole m (value levels (take n (drop place s)) 0 0 m))) (sym (part-long s place n l))
-
--- a position that holds a foreign body
-pub foreign-alone : (levels : ℕ) (s : List ℕ) (around at stop place n : ℕ) → stop ≤ length s → headAt s at stop ≡ Foreign place n
-    → value (suc levels) s around at stop ≡ framed place n (readingFurther place (bodyAlone levels (take n (drop place s))))
-foreign-alone levels s around at stop place n l e =
+-- a position that holds one
+pub foreign-alone : (depth : ℕ) (s : List ℕ) (around at stop place n : ℕ) → stop ≤ length s → headAt s at stop ≡ Foreign place n
+    → value (suc (suc depth)) s around at stop ≡ framed place n (readingFurther place (document depth (take n (drop place s))))
+foreign-alone depth s around at stop place n l e =
     let w : Stood s at stop (Foreign place n) = subst (Stood s at stop) e (head-stood s at stop) in
-    clauses.value-foreign levels s around at stop (headAt s at stop) refl place n e ∙ ap (framed place n) (body-alone levels s around place n (omega (arith, w .within)))
+    clauses.value-foreign (suc depth) s around at stop (headAt s at stop) refl place n e ∙ ap (framed place n) (body-alone depth s around place n (omega (arith, w .within)))
+
+-- and one with no level left is damaged for that, whatever its bytes
+pub foreign-deep : (s : List ℕ) (around at stop place n : ℕ) → headAt s at stop ≡ Foreign place n
+    → value (suc zero) s around at stop ≡ right (damaged (damagedOwn place n (refusalNumber why.Deep))) (place + n)
+unfolding value
+foreign-deep s around at stop place n e = clauses.value-damaged zero s around at stop (headAt s at stop) refl place n e why.Deep place refl
 
 -- ---- its rows
 
@@ -254,13 +257,13 @@ rows-alone s d t f by row registry =
     ∙ sym (ap₂ (rowsFurther row by) (sym (add-zero (size t))) (sym (append-nil (layout t 0 []))) ∙ moves row by s t d 0 0 row 0 [] [] [] f refl (sym (add-zero row)) refl ∙ append-nil (layout (treeFurther by t) row []))
 
 -- "same rows with row numbers and places moved" (request §14): the rows of a foreign document whose bytes read alone as t, its own row first
-pub foreign-moved : (depth : ℕ) (b : List ℕ) (t : Tree) (next : ℕ) → bodyAlone (suc depth) b ≡ right t next → (place row : ℕ) (registry : List ℕ)
+pub foreign-moved : (depth : ℕ) (b : List ℕ) (t : Tree) (next : ℕ) → document depth b ≡ right t next → (place row : ℕ) (registry : List ℕ)
     → layout (foreign foreignOwn (treeFurther place t)) row registry
     ≡ wordsOf (rowOf foreignOwn (row + (1 + size t))) ++ rowsFurther (row + 1) place (size t) (layout t 0 [])
 unfolding layout
 foreign-moved depth b t next e place row registry =
     ap₂ (λ (n : ℕ) (l : List ℕ). wordsOf (rowOf foreignOwn (row + (1 + n))) ++ l) (size-further place t)
-    (rows-alone b (suc depth) t (document-fine depth b t next (document-alone depth b ∙ e)) place (row + 1) registry)
+    (rows-alone b (suc depth) t (document-fine depth b t next e) place (row + 1) registry)
 
 -- ---- in a table by any maker
 
@@ -319,12 +322,12 @@ pub damaged-anywhere : (s : List ℕ) (d k k′ : ℕ) (o : Own) → Obeys s d k
 unfolding Obeys
 damaged-anywhere s d k k′ o f = (f .0, f .1, subst (λ (i : ℕ). Spoilt s (d - 1) i o) (in-foreign-none k ∙ sym (in-foreign-none k′)) (f .2))
 
--- and the verdict of a damaged one is why its bytes alone are refused
-pub damaged-alone : (s : List ℕ) (d k : ℕ) (o : Own) → Obeys s d k (damaged o)
-    → (e : Refusal) × (place : ℕ) × (bodyAlone (d - 1) (take (o .w1) (drop (o .w0) s)) ≡ wrong e place) × (o .w2 ≡ refusalNumber e)
+-- and the verdict of a damaged one, with a level left, is why its bytes alone are refused
+pub damaged-alone : (depth : ℕ) (s : List ℕ) (k : ℕ) (o : Own) → Obeys s (suc (suc depth)) k (damaged o)
+    → (e : Refusal) × (place : ℕ) × (document depth (take (o .w1) (drop (o .w0) s)) ≡ wrong e place) × (o .w2 ≡ refusalNumber e)
 unfolding Obeys
-damaged-alone s d k o f =
-    let v = f .2 in
-    let b : Reading = bodyAlone (d - 1) (take (o .w1) (drop (o .w0) s)) in
-    let u = further-wrong (o .w0) b (v .why) (v .place) (sym (body-alone (d - 1) s k (o .w0) (o .w1) (damaged-inside s o (f .1))) ∙ v .reads) in
+damaged-alone depth s k o f =
+    let v : Spoilt s (suc depth) (inForeign k) o = subst (λ (d : ℕ). Spoilt s d (inForeign k) o) (less-one (suc depth)) (f .2) in
+    let b : Reading = document depth (take (o .w1) (drop (o .w0) s)) in
+    let u = further-wrong (o .w0) b (v .why) (v .place) (sym (body-alone depth s k (o .w0) (o .w1) (damaged-inside s o (f .1))) ∙ v .reads) in
     (v .why, u .0, u .1, v .verdict)

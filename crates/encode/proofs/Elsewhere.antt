@@ -3,7 +3,7 @@
 use mathlib.Core.Path.{_≡_, refl, sym, ap, ap₂, _∙_}
 use Prim.Native.Nat.{ℕ, zero, suc, _+_, _-_, _≤_, _<_}
 use native.Mathlib.Omega.{arith}
-use native.Mathlib.Nat.{add-zero}
+use native.Mathlib.Nat.{add-zero, add-assoc}
 use mathlib.Core.Bool.{Bool, true, false, cond}
 use mathlib.Core.List.{List, [], _∷_}
 use lib.ListN.{getD, take, drop}
@@ -82,9 +82,6 @@ abbrev readingsFurther : ℕ → Readings → Readings
 readingsFurther by (ran ts next) = ran (treesFurther by ts) (by + next)
 readingsFurther by (broke e place) = broke e (by + place)
 
-further : (by a b : ℕ) → by + a + b ≡ by + (a + b)
-further by a b = omega arith
-
 -- ---- the bytes x stand in s from `by` on
 
 module _ (s : List ℕ) (by n : ℕ) where
@@ -106,7 +103,7 @@ module _ (s : List ℕ) (by n : ℕ) where
   count-of at (is m used) = go (leb m limit)
     where
       go : (b : Bool) → cond b (Is m (by + at + used)) (Not why.Huge) ≡ countFurther by (cond b (Is m (at + used)) (Not why.Huge))
-      go true = ap (Is m) (further by at used)
+      go true = ap (Is m) (add-assoc by at used)
       go false = refl
   count-of at short = refl
   count-of at other = refl
@@ -131,7 +128,7 @@ module _ (s : List ℕ) (by n : ℕ) where
   bodied-same at stop c j m = ap (λ (k : ℕ). cond (leb m k) (Leaf (contentFurther by c) (by + j + m)) (Refuse why.Short (by + at))) (stop-less stop j) ∙ go (leb m (stop - j))
     where
       go : (b : Bool) → cond b (Leaf (contentFurther by c) (by + j + m)) (Refuse why.Short (by + at)) ≡ headFurther by (cond b (Leaf c (j + m)) (Refuse why.Short at))
-      go true = ap (Leaf (contentFurther by c)) (further by j m)
+      go true = ap (Leaf (contentFurther by c)) (add-assoc by j m)
       go false = refl
 
   spelling-same : (stop j m : ℕ) → j ≤ stop → stop ≤ n → spelling s (by + j) m (by + stop) ≡ spellingFurther by (spelling x j m stop)
@@ -153,7 +150,7 @@ module _ (s : List ℕ) (by n : ℕ) where
       go (Not e) k = refl
 
   text-same : (at : ℕ) (y : Spelling) → textHead (by + at) (spellingFurther by y) ≡ headFurther by (textHead at y)
-  text-same at (At place m) = ap (Leaf (holds.Span kindText (by + place) m)) (further by place m)
+  text-same at (At place m) = ap (Leaf (holds.Span kindText (by + place) m)) (add-assoc by place m)
   text-same at (No e) = refl
 
   char-same : (at stop : ℕ) → stop ≤ n → charHead s (by + at) (by + stop) ≡ headFurther by (charHead x at stop)
@@ -161,12 +158,12 @@ module _ (s : List ℕ) (by n : ℕ) where
       let e : by + stop - (by + at + 1) ≡ stop - (at + 1) = omega arith in
       ap (λ (k : ℕ). cond (leb 3 k) (charBody (by + at) (number (take 3 (drop (by + at + 1) s)))) (Refuse why.Short (by + at))) e
       ∙ bool-case (leb 3 (stop - (at + 1)))
-      (λ b. rw b (ap (λ (y : List ℕ). charBody (by + at) (number y)) (ap (λ (k : ℕ). take 3 (drop k s)) (further by at 1) ∙ part-same 3 (at + 1) (omega (arith, leb-true 3 (stop - (at + 1)) b)))
+      (λ b. rw b (ap (λ (y : List ℕ). charBody (by + at) (number y)) (ap (λ (k : ℕ). take 3 (drop k s)) (add-assoc by at 1) ∙ part-same 3 (at + 1) (omega (arith, leb-true 3 (stop - (at + 1)) b)))
       ∙ go (codepoint (number (take 3 (drop (at + 1) x)))) (number (take 3 (drop (at + 1) x)))))
       (λ b. rw b refl)
     where
       go : (b : Bool) (c : ℕ) → cond b (Leaf (holds.Char c) (by + at + 4)) (Refuse why.Char (by + at)) ≡ headFurther by (cond b (Leaf (holds.Char c) (at + 4)) (Refuse why.Char at))
-      go true c = ap (Leaf (holds.Char c)) (further by at 4)
+      go true c = ap (Leaf (holds.Char c)) (add-assoc by at 4)
       go false c = refl
 
   foreign-body : (at stop m j : ℕ) → cond (leb m (by + stop - (by + j))) (Foreign (by + j) m) (Refuse why.Short (by + at)) ≡ headFurther by (cond (leb m (stop - j)) (Foreign j m) (Refuse why.Short at))
@@ -187,7 +184,7 @@ module _ (s : List ℕ) (by n : ℕ) where
     -- a body behind the marker
     body-at : (m : ℕ) (c : ℕ → Content) → c (by + (at + 1)) ≡ contentFurther by (c (at + 1)) → bodied (by + at) (c (by + at + 1)) (by + at + 1) m (by + stop) ≡ headFurther by (bodied at (c (at + 1)) (at + 1) m stop)
     body-at m c e =
-        ap (λ (p : ℕ). bodied (by + at) (c p) p m (by + stop)) (further by at 1)
+        ap (λ (p : ℕ). bodied (by + at) (c p) p m (by + stop)) (add-assoc by at 1)
         ∙ ap (λ (y : Content). bodied (by + at) y (by + (at + 1)) m (by + stop)) e ∙ bodied-same at stop (c (at + 1)) (at + 1) m
 
     second-same : (b : ℕ) → secondHead s (by + at) (by + stop) b ≡ headFurther by (secondHead x at stop b)
@@ -204,13 +201,13 @@ module _ (s : List ℕ) (by n : ℕ) where
     special-same =
         bool-case (ltb (at + 1) stop)
         (λ b. rw (lt-ltb (by + at + 1) (by + stop) (omega (arith, ltb-true (at + 1) stop b)), b)
-        (ap (secondHead s (by + at) (by + stop)) (ap (λ (k : ℕ). getD s k 0) (further by at 1) ∙ byte-same (at + 1) (omega (arith, ltb-true (at + 1) stop b))) ∙ second-same (getD x (at + 1) 0)))
+        (ap (secondHead s (by + at) (by + stop)) (ap (λ (k : ℕ). getD s k 0) (add-assoc by at 1) ∙ byte-same (at + 1) (omega (arith, ltb-true (at + 1) stop b))) ∙ second-same (getD x (at + 1) 0)))
         (λ b. rw (le-ltb (by + at + 1) (by + stop) (omega (arith, ltb-false (at + 1) stop b)), b) refl)
 
     stands-same : (b : ℕ) (m : Marker) → headBy s (by + at) (by + stop) b m ≡ headFurther by (headBy x at stop b m)
     unfolding headBy
-    stands-same b constant = ap (Leaf (holds.Constant (b + 1))) (further by at 1)
-    stands-same b small = ap (Leaf (holds.Small b)) (further by at 1)
+    stands-same b constant = ap (Leaf (holds.Constant (b + 1))) (add-assoc by at 1)
+    stands-same b small = ap (Leaf (holds.Small b)) (add-assoc by at 1)
     stands-same b signedBody = body-at (sizeAt (b - 0x10)) (λ p. holds.Integer true p (sizeAt (b - 0x10))) refl
     stands-same b unsignedBody = body-at (sizeAt (b - 0x18)) (λ p. holds.Integer false p (sizeAt (b - 0x18))) refl
     stands-same b float = body-at (floatSize b) (λ p. holds.Span kindFloat p (floatSize b)) refl
@@ -240,7 +237,7 @@ module _ (s : List ℕ) (by n : ℕ) where
 
   keyed-same : (at : ℕ) (y : Spelling) → keyed (by + at) (spellingFurther by y) ≡ readingFurther by (keyed at y)
   unfolding named treeFurther
-  keyed-same at (At place m) = ap (right (leaf (spanOwn kindKey (by + place) m))) (further by place m)
+  keyed-same at (At place m) = ap (right (leaf (spanOwn kindKey (by + place) m))) (add-assoc by place m)
   keyed-same at (No e) = refl
 
   -- ---- what a leaf says
@@ -309,8 +306,8 @@ module _ (by : ℕ) where
 
   framed-further : (place m : ℕ) (y : Reading) → framed (by + place) m (readingFurther by y) ≡ readingFurther by (framed place m y)
   unfolding treeFurther
-  framed-further place m (right t next) = ap (right (foreign foreignOwn (treeFurther by t))) (further by place m)
-  framed-further place m (wrong e p) = ap₂ (λ (w : Own) (next : ℕ). right (damaged w) next) (damaged-further place m e) (further by place m)
+  framed-further place m (right t next) = ap (right (foreign foreignOwn (treeFurther by t))) (add-assoc by place m)
+  framed-further place m (wrong e p) = ap₂ (λ (w : Own) (next : ℕ). right (damaged w) next) (damaged-further place m e) (add-assoc by place m)
 
   follow-further : (at stop : ℕ) (y : Reading) → ReadAt at stop y → (rest rest′ : ℕ → Readings) → ((j : ℕ) → j ≤ stop → rest (by + j) ≡ readingsFurther by (rest′ j))
       → follow (readingFurther by y) rest ≡ readingsFurther by (follow y rest′)
@@ -354,7 +351,7 @@ module _ (s : List ℕ) (by n d : ℕ) (same : (k at stop : ℕ) → stop ≤ n 
       ap (λ (q : Readings). declaring m q (value d s) (by + stop)) (run-same Entries 0 0 m next stop (w .within) l)
       ∙ declaring-further by stop m (readings (value d y) Entries y 0 0 m next stop) (value d s) (value d y) (λ j. same m j stop l)
   step-same k at stop l (Foreign place m) w =
-      ap (framed (by + place) m) (ap (λ (i : ℕ). whole i (value d s (inForeign k) (by + place) i)) (further by place m)
+      ap (framed (by + place) m) (ap (λ (i : ℕ). whole i (value d s (inForeign k) (by + place) i)) (add-assoc by place m)
       ∙ ap (whole (by + (place + m))) (same (inForeign k) place (place + m) (omega (arith, w .within)))
       ∙ whole-further by (place + m) (value d y (inForeign k) place (place + m)))
       ∙ framed-further by place m (whole (place + m) (value d y (inForeign k) place (place + m)))

@@ -1,20 +1,16 @@
--- What bytes are by themselves, and the same further on: what is read with its places moved by `by`, and rows with their row numbers moved by
--- `down` besides. Assumes nothing: these are definitions.
+-- The same further on: what is read with its places moved by `by`, and rows with their row numbers moved by `down` besides. Assumes nothing:
+-- these are definitions.
 use Prim.Native.Nat.{ℕ, zero, suc, _+_}
 use mathlib.Core.Bool.{cond}
 use mathlib.Core.List.{List, [], _++_}
-use lib.ListN.{length, drop}
+use lib.ListN.{drop}
 use lib.Dec.{eqb}
 use Rattle.rows.specs.declared.row.Row.{Row}
 use Rattle.rows.specs.Table.{wordsPerRow, Own, rowOf, ownOf, aimed, wordsOf, rowAt}
 use Rattle.rows.specs.Kinds.{kindReference}
 use Rattle.format.specs.Tree.{Tree, leaf, refer, hold, declare, foreign, damaged, Trees, none, more}
-use Rattle.format.specs.Value.{Reading, right, wrong, value, whole}
+use Rattle.format.specs.Value.{Reading, right, wrong}
 use Rattle.encode.specs.Encode.{moved}
-
--- what a foreign body of the bytes b reads as by itself, with `levels` levels left: "no registry is in force at the start" (request §2)
-abbrev pub bodyAlone : ℕ → List ℕ → Reading
-bodyAlone levels b = whole (length b) (value levels b 0 0 (length b))
 
 -- a row whose payload, if it has one, stands further on
 abbrev pub ownFurther : ℕ → Own → Own
