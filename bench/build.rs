@@ -1,4 +1,4 @@
-//! Links others.c, which bench/run compiled, and the two libraries that it calls.
+//! Links others.c, which bench/run compiled, and the two libraries that it calls; and another checkout's text check, if there is one.
 
 fn main() {
     let folder = std::env::var("PANXIDELL_OTHERS").expect("bench/run names the folder of libothers.a");
@@ -8,4 +8,8 @@ fn main() {
     println!("cargo:rustc-link-lib=static=others");
     println!("cargo:rustc-link-lib=msgpackc");
     println!("cargo:rustc-link-lib=cbor");
+    if std::env::var("CARGO_FEATURE_BEFORE").is_ok() {
+        println!("cargo:rerun-if-changed={folder}/libbefore.a");
+        println!("cargo:rustc-link-lib=static=before");
+    }
 }

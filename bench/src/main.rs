@@ -2,6 +2,7 @@
 
 mod content;
 mod others;
+mod texts;
 mod timing;
 
 use content::{integers, interned, nested, passages, texts, twin_panel};
@@ -142,6 +143,7 @@ fn main() {
     growth(&mut targets);
     registries();
     smallest();
+    texts::texts(&mut targets);
     println!("\nTargets\n");
     for Target { what, most, was } in targets {
         println!("{} {was:5.2}  at most {most:4.2}  {what}", if was <= most { "met   " } else { "MISSED" });

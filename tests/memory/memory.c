@@ -9,6 +9,9 @@
 #include <string.h>
 #include <valgrind/memcheck.h>
 
+/* The text check by itself, libtext_c.a. */
+size_t panxidell_text(const uint8_t *data, size_t length);
+
 static unsigned long calls;
 static int asks_values;
 
@@ -105,8 +108,9 @@ static uint32_t *filled(const uint8_t *data, size_t length, uint64_t measured, s
 
 /* The table of a right document, or none. No words are lent, and five; a row and a word too few; and rows enough. */
 static uint32_t *document(const uint8_t *data, size_t length, size_t *words) {
+    if (panxidell_text(data, length) > length) fail("more bytes are text than there are");
     uint64_t measured = panxidell_measure(data, length);
-    calls++;
+    calls += 2;
     size_t rows = panxidell_number(measured) ? 2 : (size_t)panxidell_beside(measured);
     *words = 6 * rows;
     size_t lent[] = {0, 5, *words - 6, *words - 1, *words + 7};

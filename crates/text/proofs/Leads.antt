@@ -1,5 +1,5 @@
 -- What the first byte of a sequence says of the others is what the table says. Assumes nothing.
-use Prim.Native.Nat.{ℕ, zero, suc, _≤_, _<_}
+use Prim.Native.Nat.{ℕ, zero, suc}
 use mathlib.Core.Bool.{Bool, true, false, _&&_, cond}
 use mathlib.Core.List.{List, [], _∷_}
 use mathlib.Core.Path.{_≡_, refl, sym, ap, _∙_}
@@ -10,31 +10,31 @@ use Rattle.text.specs.declared.lead.Lead.the-variants.{Starts, Never}
 use Rattle.text.specs.Syntax.{Range, _to_, Line, UTF8-tail, UTF8-char}
 use Rattle.text.specs.Check.{inRange, matches, taken, sequence}
 use Rattle.text.specs.Contracts.{lineIn, leads, leadOf}
-use Rattle.text.proofs.Table.{within-true, within-false, within-bounds, Tailed, Ordered, ordered, below}
+use Rattle.text.proofs.Table.{within-bounds, Tailed, Ordered, ordered, below}
 
 -- b is in the first range of line n, and in none before it; past the last line it is in none
 abbrev pub Picks : ℕ → List Line → ℕ → Type 0
 Picks n [] b = Unit {0}
 Picks n ([] ∷ ls) b = ⊥
-Picks zero ((low to high ∷ l) ∷ ls) b = (low ≤ b) × (b ≤ high)
-Picks (suc n) ((low to high ∷ l) ∷ ls) b = (low ≤ b → high < b) × Picks n ls b
+Picks zero ((r ∷ l) ∷ ls) b = inRange r b ≡ true
+Picks (suc n) ((r ∷ l) ∷ ls) b = (inRange r b ≡ false) × Picks n ls b
 
 picked : (n : ℕ) (ls : List Line) (b : ℕ) → Picks n ls b → lineIn ls b ≡ getD ls n []
 picked n [] b h = refl
 picked n ([] ∷ ls) b h = absurd h
-picked zero ((low to high ∷ l) ∷ ls) b h = simp (within-true low high b (h .0) (h .1))
-picked (suc n) ((low to high ∷ l) ∷ ls) b h = simp (within-false low high b (h .0)) (picked n ls b (h .1))
+picked zero ((r ∷ l) ∷ ls) b h = simp h
+picked (suc n) ((r ∷ l) ∷ ls) b h = simp (h .0) (picked n ls b (h .1))
 
-pub lead-at : (n b : ℕ) → Picks n UTF8-char b → leads (getD UTF8-char n []) ≡ leadOf b
+pub lead-at : (n b : ℕ) (x : Lead) → Picks n UTF8-char b → x ≡ leads (getD UTF8-char n []) → x ≡ leadOf b
 unfolding leadOf
-lead-at n b h = ap leads (sym (picked n UTF8-char b h))
+lead-at n b x h e = e ∙ ap leads (sym (picked n UTF8-char b h))
 
 -- n continuation bytes, the first of them from low to high
 abbrev pub tails : ℕ → ℕ → ℕ → Line
 tails zero low high = []
 tails (suc n) low high = low to high ∷ replicate n UTF8-tail
 
-length-tails : (n low high : ℕ) → length (tails n low high) ≡ n
+pub length-tails : (n low high : ℕ) → length (tails n low high) ≡ n
 length-tails zero low high = refl
 length-tails (suc n) low high = ap suc (length-replicate n UTF8-tail)
 

@@ -3,7 +3,7 @@ mod Table
 mod Leads
 mod Fronts
 mod Walks
-mod Words
+mod PlainRuns
 mod Steps
 mod Runs
 pub mod Laws

@@ -2,7 +2,7 @@
 use Prim.Native.Nat.{ℕ, suc, _≤_, _<_}
 use mathlib.Core.Bool.{Bool, true, false, _&&_, false≢true}
 use mathlib.Core.List.{List, [], _∷_}
-use mathlib.Core.Path.{_≡_, refl}
+use mathlib.Core.Path.{_≡_, refl, sym, _∙_}
 use native.Mathlib.Omega.{arith}
 use borrow.Author.Needs.{needs}
 use borrow.Author.Tests.{le-leb, lt-leb, leb-true}
@@ -13,6 +13,13 @@ use Rattle.text.specs.Check.{inRange, taken}
 
 pub within-true : (low high b : ℕ) → low ≤ b → b ≤ high → inRange (low to high) b ≡ true
 within-true low high b p q = simp (le-leb, p, q)
+
+-- where the first test decides, and where the second does
+pub upper : (low high b : ℕ) → low ≤ b → leb b high ≡ inRange (low to high) b
+upper low high b p = simp (le-leb, p)
+
+pub lower : (low high b : ℕ) → b < low → leb low b ≡ inRange (low to high) b
+lower low high b p = simp (lt-leb, p)
 
 pub within-false : (low high b : ℕ) → (low ≤ b → high < b) → inRange (low to high) b ≡ false
 within-false low high b p = go (leb low b) refl
@@ -27,6 +34,19 @@ within-bounds low high b w = go (leb low b) refl w
     go : (t : Bool) → leb low b ≡ t → t && leb b high ≡ true → (low ≤ b) × (b ≤ high)
     go true e q = (leb-true low b e, leb-true b high q)
     go false e q = absurd (false≢true q)
+
+-- what a test of a range says, and a test of a byte
+pub in-range : (low high b : ℕ) (x : Bool) → x ≡ inRange (low to high) b → x ≡ true → inRange (low to high) b ≡ true
+in-range low high b x e t = sym e ∙ t
+
+pub no-range : (low high b : ℕ) (x : Bool) → x ≡ inRange (low to high) b → x ≡ false → inRange (low to high) b ≡ false
+no-range low high b x e t = sym e ∙ t
+
+pub this-byte : (byte b : ℕ) → b ≡ byte → inRange (byte to byte) b ≡ true
+this-byte byte b e = within-true byte byte b (omega arith) (omega arith)
+
+pub other-byte : (byte b : ℕ) → (b ≡ byte → ⊥) → inRange (byte to byte) b ≡ false
+other-byte byte b e = within-false byte byte b (λ h. omega arith)
 
 -- behind its second range a line has tails alone; l is the line without its first
 abbrev pub Tailed : Line → Type 0

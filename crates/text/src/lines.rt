@@ -1,31 +1,67 @@
+// RFC 3629, section 4, line by line: every range stands in this file, and in no other.
 use super::lead::Lead;
+ghost use Prim.Native.Nat.{_+_, _≤_};
 ghost use mathlib.Core.Path.{_≡_};
-ghost use Rattle.text.specs.Contracts.{leadOf};
+ghost use Rattle.text.specs.Syntax.{_to_, UTF8-tail, plainByte};
+ghost use Rattle.text.specs.Check.{inRange};
+ghost use Rattle.text.specs.Contracts.{goesOn, leadOf};
 
-// The lines of RFC 3629, section 4, in its order, told apart by their first byte.
+// UTF8-tail = %x80-BF
+pub const TAIL_LOW: u8 = 0x80;
+
+pub const TAIL_HIGH: u8 = 0xbf;
+
+// Whether b is a byte from low to high.
+pub fn within(b: u8, low: u8, high: u8) -> bool
+    ensures { λ r. ⌜ r ≡ inRange (low to high) b ⌝ }
+{
+    low <= b && b <= high
+}
+
+// UTF8-1 = %x00-7F
+pub fn is_plain(b: u8) -> bool
+    ensures { λ r. ⌜ r ≡ inRange plainByte b ⌝ }
+{
+    within(b, 0x00, 0x7f)
+}
+
+// Behind the first byte: n( UTF8-tail )
+fn tails(n: usize) -> Lead
+    ensures { λ r. ⌜ r ≡ goesOn n UTF8-tail ⌝ }
+{
+    Lead::Starts(n, TAIL_LOW, TAIL_HIGH)
+}
+
+// Behind the first byte: one from low to high, then n( UTF8-tail )
+fn then(low: u8, high: u8, n: usize) -> Lead
+    requires { ⌜ n ≤ 2 ⌝ }
+    ensures { λ r. ⌜ r ≡ goesOn (n + 1) (low to high) ⌝ }
+{
+    Lead::Starts(n + 1, low, high)
+}
+
+// The lines that the first byte of a sequence tells apart.
 pub fn lead_of(b: u8) -> Lead
     ensures { λ r. ⌜ r ≡ leadOf b ⌝ }
 {
-    if b < 0x80 {
-        Lead::Starts(0, 0, 0) // UTF8-1 = %x00-7F
-    } else if b < 0xc2 {
-        Lead::Never
-    } else if b <= 0xdf {
-        Lead::Starts(1, 0x80, 0xbf) // UTF8-2 = %xC2-DF UTF8-tail
+    if is_plain(b) {
+        tails(0) // UTF8-1 = %x00-7F
+    } else if within(b, 0xc2, 0xdf) {
+        tails(1) // UTF8-2 = %xC2-DF UTF8-tail
     } else if b == 0xe0 {
-        Lead::Starts(2, 0xa0, 0xbf) // UTF8-3 = %xE0 %xA0-BF UTF8-tail
-    } else if b <= 0xec {
-        Lead::Starts(2, 0x80, 0xbf) // %xE1-EC 2( UTF8-tail )
+        then(0xa0, 0xbf, 1) // UTF8-3 = %xE0 %xA0-BF UTF8-tail
+    } else if within(b, 0xe1, 0xec) {
+        tails(2) //                   / %xE1-EC 2( UTF8-tail )
     } else if b == 0xed {
-        Lead::Starts(2, 0x80, 0x9f) // %xED %x80-9F UTF8-tail
-    } else if b <= 0xef {
-        Lead::Starts(2, 0x80, 0xbf) // %xEE-EF 2( UTF8-tail )
+        then(0x80, 0x9f, 1) //        / %xED %x80-9F UTF8-tail
+    } else if within(b, 0xee, 0xef) {
+        tails(2) //                   / %xEE-EF 2( UTF8-tail )
     } else if b == 0xf0 {
-        Lead::Starts(3, 0x90, 0xbf) // UTF8-4 = %xF0 %x90-BF 2( UTF8-tail )
-    } else if b <= 0xf3 {
-        Lead::Starts(3, 0x80, 0xbf) // %xF1-F3 3( UTF8-tail )
+        then(0x90, 0xbf, 2) // UTF8-4 = %xF0 %x90-BF 2( UTF8-tail )
+    } else if within(b, 0xf1, 0xf3) {
+        tails(3) //                   / %xF1-F3 3( UTF8-tail )
     } else if b == 0xf4 {
-        Lead::Starts(3, 0x80, 0x8f) // %xF4 %x80-8F 2( UTF8-tail )
+        then(0x80, 0x8f, 2) //        / %xF4 %x80-8F 2( UTF8-tail )
     } else {
         Lead::Never
     }

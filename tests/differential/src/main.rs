@@ -1,7 +1,7 @@
 //! The proved library beside the reference implementation, over generated documents and tables, every operation.
 //!
 //!     differential quick            about ten seconds
-//!     differential long [CASES]     a million cases or more, all documents of up to 3 bytes, and the largest ones
+//!     differential long [CASES]     a million cases or more, all texts of up to 4 bytes, all documents of up to 3, and the largest ones
 //!     differential corpus FOLDER    every file of a corpus
 //!     differential case SEED CASE   one case again, as a difference names it
 //!     differential paper FOLDER     writes the paper's documents as inputs of the corpus
@@ -12,6 +12,7 @@ mod documents;
 mod large;
 mod seeds;
 mod tables;
+mod texts;
 
 use compare::{Compare, Tally};
 use std::sync::atomic::{AtomicU64, Ordering};
@@ -28,6 +29,8 @@ fn main() {
     let mut tally = Tally::default();
     match words[..] {
         ["quick"] => {
+            texts::every(3);
+            texts::longer(SEED, 200_000);
             tally.add(&cases::short(2));
             tally.add(&large::run(false));
             tally.add(&generated(SEED, u64::MAX, start + Duration::from_secs(10)));
@@ -53,6 +56,8 @@ fn main() {
 }
 
 fn long(tally: &mut Tally, seed: u64, cases: u64) {
+    texts::every(4);
+    texts::longer(seed, 5_000_000);
     tally.add(&cases::short(3));
     tally.add(&large::run(true));
     tally.add(&generated(seed, cases, Instant::now() + Duration::from_secs(86_400)));
