@@ -75,11 +75,16 @@ pub fn texts(targets: &mut Vec<Target>) {
                 ratio(ours / reference),
                 ratio(ours / before),
             );
-            let what = format!("{}, {}: the text check", script.0, if count > 1 { "short texts" } else { "a long text" });
+            let what =
+                format!("{}, {}: the text check", script.0, if count > 1 { "short texts" } else { "a long text" });
             if script.0 != "plain" {
                 targets.push(Target { what: format!("{what} / from_utf8"), most: 1.0, was: ours / std });
             } else if !before.is_nan() {
-                targets.push(Target { what: format!("{what} / that of the other checkout"), most: 1.1, was: ours / before });
+                targets.push(Target {
+                    what: format!("{what} / that of the other checkout"),
+                    most: 1.1,
+                    was: ours / before,
+                });
             }
         }
     }
