@@ -1,11 +1,11 @@
--- Runs of plain bytes: none, one byte more, and eight more where their number has none of eight top bits. Assumes nothing.
+-- Runs of plain bytes: none, one byte more, and eight more where their number has none of the bytes' top bits. Assumes nothing.
 use Prim.Native.Nat.{ℕ, zero, suc, _+_, _*_, _/_, _%_, _-_, _^_, _≤_, _<_}
 use mathlib.Core.Bool.{Bool, true}
 use mathlib.Core.List.{List}
 use mathlib.Core.Logic.{_⊎_, inl, inr}
-use mathlib.Core.Path.{_≡_, sym, ap, ap₂, subst, _∙_}
+use mathlib.Core.Path.{_≡_, refl, sym, ap, ap₂, subst, _∙_}
 use native.Mathlib.Omega.{arith}
-use native.Mathlib.Nat.{add-zero, zero-add, eq-or-lt-of-le}
+use native.Mathlib.Nat.{add-zero, eq-or-lt-of-le}
 use lib.Bits.{bitAnd, and-block, and-high}
 use lib.ListN.{length, getD}
 use Rattle.text.specs.Syntax.{plainByte}
@@ -26,7 +26,7 @@ below-top b f e =
     let l : b < 128 = omega arith in
     within-true 0x00 0x7F b (omega arith) (omega arith)
 
--- a byte on top of others: no top bit in all, so none in the byte and none in the others
+-- a byte below others: no top bit in all, so none in the byte and none in the others
 no-top : (b rest t : ℕ) → b < 256 → bitAnd (b + 256 * rest) (128 + 256 * t) ≡ 0 → (inRange plainByte b ≡ true) × (bitAnd rest t ≡ 0)
 no-top b rest t f e =
     let p : b + 256 * rest ≡ rest * 2 ^ 8 + b = omega arith in
@@ -36,13 +36,13 @@ no-top b rest t f e =
     let y : bitAnd b 128 ≡ 0 = omega arith in
     (below-top b f (nothing (b / 128 % 2) (sym h ∙ y)), omega arith)
 
-no-tops : (s : List ℕ) (at k n : ℕ) → ((j : ℕ) → getD s j 0 < 256) → bitAnd (numberAt s at k n) (tops n) ≡ 0
-    → (j : ℕ) → j < n → inRange plainByte (getD s (at + (k + j)) 0) ≡ true
-no-tops s at k zero f e j h = absurd (omega arith)
-no-tops s at k (suc n) f e zero h = rw add-zero (no-top _ _ (tops n) (f (at + k)) e .0)
-no-tops s at k (suc n) f e (suc j) h =
-    let m : k + suc j ≡ suc k + j = omega arith in
-    rw m (no-tops s at (suc k) n f (no-top _ _ (tops n) (f (at + k)) e .1) j (omega arith))
+no-tops : (s : List ℕ) (at n : ℕ) → ((j : ℕ) → getD s j 0 < 256) → bitAnd (numberAt s at n) (tops n) ≡ 0
+    → (j : ℕ) → j < n → inRange plainByte (getD s (at + j) 0) ≡ true
+no-tops s at zero f e j h = absurd (omega arith)
+no-tops s at (suc n) f e zero h = rw add-zero (no-top _ _ (tops n) (f at) e .0)
+no-tops s at (suc n) f e (suc j) h =
+    let m : at + suc j ≡ suc at + j = omega arith in
+    rw m (no-tops s (suc at) n f (no-top _ _ (tops n) (f at) e .1) j (omega arith))
 
 pub no-run : (s : List ℕ) (from : ℕ) → from ≤ length s → PlainTo s from from
 no-run s from h = record { rises = omega arith; inside = h; plain = λ k a b. absurd (omega arith) }
@@ -67,18 +67,27 @@ times P at (suc n) r step =
     rw e (step n (omega arith) (times P at n r (λ j b. step j (omega arith))))
 
 pub eight-more : (s : List ℕ) (from at w : ℕ) → PlainTo s from at → 8 ≤ length s - at → ((j : ℕ) → getD s j 0 < 256)
-    → w ≡ numberAt s at 0 8 → bitAnd w (tops 8) ≡ 0 → PlainTo s from (at + 8)
-eight-more s from at w r h f e z = times (PlainTo s from) at 8 r (λ j b q. more s from (at + j) q (omega arith) (plain j b))
-  where
-    none : bitAnd (numberAt s at 0 8) (tops 8) ≡ 0
-    none = ap (λ (n : ℕ). bitAnd n (tops 8)) (sym e) ∙ z
+    → w ≡ numberAt s at 8 → bitAnd w (tops 8) ≡ 0 → PlainTo s from (at + 8)
+eight-more s from at w r h f e z =
+    let none : bitAnd (numberAt s at 8) (tops 8) ≡ 0 = ap (λ (n : ℕ). bitAnd n (tops 8)) (sym e) ∙ z in
+    times (PlainTo s from) at 8 r (λ j b q. more s from (at + j) q (omega arith) (no-tops s at 8 f none j b))
 
-    plain : (j : ℕ) → j < 8 → inRange plainByte (getD s (at + j) 0) ≡ true
-    plain j b = subst (λ (i : ℕ). inRange plainByte (getD s (at + i) 0) ≡ true) (zero-add j) (no-tops s at 0 8 f none j b)
+-- a number by the places of its bytes from `at` on
+abbrev placed : List ℕ → ℕ → ℕ → ℕ → ℕ
+placed s at k zero = 0
+placed s at k (suc n) = getD s (at + k) 0 + 256 * placed s at (suc k) n
+
+number-placed : (s : List ℕ) (at k n : ℕ) → placed s at k n ≡ numberAt s (at + k) n
+number-placed s at k zero = refl
+number-placed s at k (suc n) =
+    let m : suc (at + k) ≡ at + suc k = omega arith in
+    rw (m, number-placed s at (suc k) n)
 
 -- the number of eight bytes, by its halves
 pub eight-number : (s : List ℕ) (at low high : ℕ)
     → low ≡ getD s at 0 + 256 * (getD s (at + 1) 0 + 256 * (getD s (at + 2) 0 + 256 * getD s (at + 3) 0))
     → high ≡ getD s (at + 4) 0 + 256 * (getD s (at + 5) 0 + 256 * (getD s (at + 6) 0 + 256 * getD s (at + 7) 0))
-    → low + 4294967296 * high ≡ numberAt s at 0 8
-eight-number s at low high p q = rw add-zero (omega arith)
+    → low + 4294967296 * high ≡ numberAt s at 8
+eight-number s at low high p q =
+    let h : low + 4294967296 * high ≡ placed s at 0 8 = rw add-zero (omega arith) in
+    h ∙ number-placed s at 0 8 ∙ ap (λ (i : ℕ). numberAt s i 8) (add-zero at)

@@ -14,7 +14,7 @@ use Rattle.text.specs.Check.{inRange, taken}
 pub within-true : (low high b : ℕ) → low ≤ b → b ≤ high → inRange (low to high) b ≡ true
 within-true low high b p q = simp (le-leb, p, q)
 
--- where the first test decides, and where the second does
+-- where the second test decides, and where the first does
 pub upper : (low high b : ℕ) → low ≤ b → leb b high ≡ inRange (low to high) b
 upper low high b p = simp (le-leb, p)
 
@@ -36,11 +36,8 @@ within-bounds low high b w = go (leb low b) refl w
     go false e q = absurd (false≢true q)
 
 -- what a test of a range says, and a test of a byte
-pub in-range : (low high b : ℕ) (x : Bool) → x ≡ inRange (low to high) b → x ≡ true → inRange (low to high) b ≡ true
-in-range low high b x e t = sym e ∙ t
-
-pub no-range : (low high b : ℕ) (x : Bool) → x ≡ inRange (low to high) b → x ≡ false → inRange (low to high) b ≡ false
-no-range low high b x e t = sym e ∙ t
+pub by-test : (low high b : ℕ) (x y : Bool) → x ≡ inRange (low to high) b → x ≡ y → inRange (low to high) b ≡ y
+by-test low high b x y e t = sym e ∙ t
 
 pub this-byte : (byte b : ℕ) → b ≡ byte → inRange (byte to byte) b ≡ true
 this-byte byte b e = within-true byte byte b (omega arith) (omega arith)

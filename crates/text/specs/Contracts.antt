@@ -35,7 +35,7 @@ pub record PlainTo (s : List ℕ) (from end : ℕ) : Type 0 where
   pub inside : end ≤ length s
   pub plain : (k : ℕ) → from ≤ k → k < end → inRange plainByte (getD s k 0) ≡ true
 
--- the bytes at + k and the n - 1 behind it as one number, the first lowest
-abbrev pub numberAt : List ℕ → ℕ → ℕ → ℕ → ℕ
-numberAt s at k zero = 0
-numberAt s at k (suc n) = getD s (at + k) 0 + 256 * numberAt s at (suc k) n
+-- the n bytes from `at` on as one number, the first lowest
+abbrev pub numberAt : List ℕ → ℕ → ℕ → ℕ
+numberAt s at zero = 0
+numberAt s at (suc n) = getD s at 0 + 256 * numberAt s (suc at) n

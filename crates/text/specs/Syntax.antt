@@ -20,10 +20,11 @@ Line = List Range
 abbrev pub UTF8-tail : Range
 UTF8-tail = 0x80 to 0xBF
 
--- "UTF8-1 = %x00-7F": such a byte, a sequence by itself, is called plain
+-- "%x00-7F": such a byte, a sequence by itself, is called plain
 abbrev pub plainByte : Range
 plainByte = 0x00 to 0x7F
 
+-- "UTF8-1 = %x00-7F"
 abbrev pub UTF8-1 : List Line
 UTF8-1 = (plainByte ∷ []) ∷ []
 

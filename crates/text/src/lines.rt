@@ -6,11 +6,6 @@ ghost use Rattle.text.specs.Syntax.{_to_, UTF8-tail, plainByte};
 ghost use Rattle.text.specs.Check.{inRange};
 ghost use Rattle.text.specs.Contracts.{goesOn, leadOf};
 
-// UTF8-tail = %x80-BF
-pub const TAIL_LOW: u8 = 0x80;
-
-pub const TAIL_HIGH: u8 = 0xbf;
-
 // Whether b is a byte from low to high.
 pub fn within(b: u8, low: u8, high: u8) -> bool
     ensures { λ r. ⌜ r ≡ inRange (low to high) b ⌝ }
@@ -66,3 +61,8 @@ pub fn lead_of(b: u8) -> Lead
         Lead::Never
     }
 }
+
+// UTF8-tail = %x80-BF
+pub const TAIL_LOW: u8 = 0x80;
+
+pub const TAIL_HIGH: u8 = 0xbf;

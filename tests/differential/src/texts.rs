@@ -60,10 +60,10 @@ pub fn longer(seed: u64, count: usize) {
         }
         judged(&bytes);
     }
-    println!("seed {seed}: {count} texts of up to 123 bytes, the same");
+    println!("seed {seed}: {count} texts of up to 122 bytes, the same");
 }
 
-/// A text of up to 123 bytes: runs of sequences of one length, plain ones among them.
+/// A text of up to 122 bytes: runs of sequences of one length, plain ones among them.
 fn any(random: &mut Random) -> String {
     const RANGES: [(u32, u32); 5] =
         [(0, 0x80), (0x80, 0x800), (0x800, 0xd800), (0xe000, 0x1_0000), (0x1_0000, 0x11_0000)];
@@ -84,7 +84,7 @@ fn judged(bytes: &[u8]) {
     let right = up_to == bytes.len();
     assert_eq!(text::up_to(bytes), up_to, "text {bytes:02x?}: how far it is text");
     assert_eq!(is_text(bytes), right, "text {bytes:02x?}: whether the reference takes it");
-    let mut document = [0; 125];
+    let mut document = [0; 124];
     document[..2].copy_from_slice(&[8, bytes.len() as u8]);
     document[2..][..bytes.len()].copy_from_slice(bytes);
     let answer = if right { packed(0, 1) } else { packed(5, 0) };

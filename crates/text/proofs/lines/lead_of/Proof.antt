@@ -1,11 +1,11 @@
 -- `text::lines::lead_of` meets its contract: each arm is a line of the table, by its number. Assumes nothing.
 use borrow.Author.Needs.{needs}
-use Rattle.text.proofs.Table.{in-range, no-range, this-byte, other-byte}
+use Rattle.text.proofs.Table.{by-test, this-byte, other-byte}
 use Rattle.text.proofs.Leads.{lead-at}
 use Rattle.text.proofs.lines.lead_of.Statement.{statement}
 use Rattle.text.proofs.lines.lead_of.Tie as tie
 
-ruleset lines = (in-range, no-range, this-byte, other-byte)
+ruleset lines = (by-test, this-byte, other-byte)
 
 pub lead-of-spec : {M : Type 1} → statement M
 lead-of-spec =
