@@ -18,7 +18,7 @@ function value(word, n, i) {
     return n
 }
 
-# the numbers in a text that a pattern begins, as their values with blanks between; what is left of each is cut off by `skip` characters
+# the values of all that matches a pattern in a text, a blank before each; of a match the first `skip` characters give way to `prefix`
 function numbers(text, pattern, skip, prefix, found) {
     while (match(text, pattern)) {
         found = found " " value(prefix substr(text, RSTART + skip, RLENGTH - skip))

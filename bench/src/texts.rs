@@ -69,8 +69,9 @@ pub fn texts(targets: &mut Vec<Target>) {
             let (ours, std, reference) = (times[0], times[1], times[2]);
             let before = times.get(3).copied().unwrap_or(f64::NAN);
             println!(
-                "{:6} {count:7} {bytes:7} | {ours:6.3} {std:9.3} {reference:6.3} {before:6.3} | {:>10} {:>5} {:>7}",
+                "{:6} {count:7} {bytes:7} | {ours:6.3} {std:9.3} {reference:6.3} {:>6} | {:>10} {:>5} {:>7}",
                 script.0,
+                if before.is_nan() { "-".to_string() } else { format!("{before:.3}") },
                 ratio(ours / std),
                 ratio(ours / reference),
                 ratio(ours / before),

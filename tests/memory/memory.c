@@ -1,6 +1,6 @@
-/* Runs the library, and the text check by itself, on exact-size heap slices, under valgrind's memcheck: it sees every byte read or written outside
-   them. What is lent to be written is undefined beforehand, so that with -v it also sees an answer that depends on what was
-   there, a table not written whole, and a byte touched that had to stay.
+/* Runs the library, and the text check by itself, on exact-size heap slices, under valgrind's memcheck: it sees every byte
+   read or written outside them. What is lent to be written is undefined beforehand, so that with -v it also sees an answer
+   that depends on what was there, a table not written whole, and a byte touched that had to stay.
    Files of the corpus (their forms: tests/compare/src/input.rs); behind -d, documents, each behind two bytes of length. */
 #include "panxidell.h"
 

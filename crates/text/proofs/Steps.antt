@@ -1,6 +1,6 @@
 -- The steps of the check: a law for each way on and each way out of its loops. Assumes nothing.
 use Prim.Native.Nat.{ℕ, zero, suc, _+_, _-_, _≤_, _<_}
-use mathlib.Core.Bool.{Bool, true, false, _&&_, cond}
+use mathlib.Core.Bool.{Bool, true, false, cond, and-false}
 use mathlib.Core.List.{List, [], _∷_}
 use mathlib.Core.Path.{_≡_, refl, sym, ap, subst, _∙_}
 use native.Mathlib.Omega.{arith}
@@ -52,11 +52,7 @@ lost s i r h e = sym (stops i (drop i s) (simp length-drop (omega arith)) e) ∙
 too-few : (l : Line) (s : List ℕ) → length s < length l → matches l s ≡ false
 too-few [] s h = absurd (omega arith)
 too-few (r ∷ l) [] h = refl
-too-few (r ∷ l) (b ∷ s) h = rw (too-few l s (omega arith)) (neither (inRange r b))
-  where
-    neither : (x : Bool) → x && false ≡ false
-    neither true = refl
-    neither false = refl
+too-few (r ∷ l) (b ∷ s) h = rw (too-few l s (omega arith)) (and-false (inRange r b))
 
 -- a byte that is a sequence by itself
 plain : (s : List ℕ) (i : ℕ) → Reached s i → i < length s → inRange plainByte (getD s i 0) ≡ true → Reached s (i + 1)

@@ -26,6 +26,7 @@ leads [] = Never
 leads (r ∷ []) = goesOn 0 UTF8-tail
 leads (r ∷ next ∷ l) = goesOn (length (next ∷ l)) next
 
+-- what b, as the first byte of a sequence, says of the others
 unfoldable pub leadOf : ℕ → Lead
 leadOf b = leads (lineIn UTF8-char b)
 

@@ -44,7 +44,7 @@ pub fn check(s: &[u8]) -> Text
     Text::IllFormed { offset }
 }
 
-// Whether there is none such.
+// Whether no sequence is ill formed.
 pub fn is_well_formed(s: &[u8]) -> bool
     ensures { λ r. ⌜ r ≡ wellFormed (textOf (now (s .entry))) ⌝ }
 {

@@ -1,4 +1,4 @@
-// RFC 3629, section 4, line by line: every range stands in this file, and in no other.
+// RFC 3629, section 4, line by line: every range of the code stands in this file, and in no other of its files.
 use super::lead::Lead;
 ghost use Prim.Native.Nat.{_+_, _≤_};
 ghost use mathlib.Core.Path.{_≡_};
@@ -13,7 +13,7 @@ pub fn within(b: u8, low: u8, high: u8) -> bool
     low <= b && b <= high
 }
 
-// UTF8-1 = %x00-7F
+// UTF8-1 = %x00-7F: whether b is plain, a sequence by itself.
 pub fn is_plain(b: u8) -> bool
     ensures { λ r. ⌜ r ≡ inRange plainByte b ⌝ }
 {
@@ -40,7 +40,7 @@ pub fn lead_of(b: u8) -> Lead
     ensures { λ r. ⌜ r ≡ leadOf b ⌝ }
 {
     if is_plain(b) {
-        tails(0) // UTF8-1 = %x00-7F
+        tails(0) // UTF8-1
     } else if within(b, 0xc2, 0xdf) {
         tails(1) // UTF8-2 = %xC2-DF UTF8-tail
     } else if b == 0xe0 {

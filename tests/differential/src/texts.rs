@@ -60,7 +60,9 @@ pub fn longer(seed: u64, count: usize) {
         }
         judged(&bytes);
     }
-    println!("seed {seed}: {count} texts of up to 122 bytes, the same");
+    println!(
+        "texts of up to 39 bytes with a sequence at every place; seed {seed}: {count} of up to 122 bytes; the same"
+    );
 }
 
 /// A text of up to 122 bytes: runs of sequences of one length, plain ones among them.
