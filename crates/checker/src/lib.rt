@@ -6,7 +6,7 @@ mod one;
 mod value;
 
 ghost use Rattle.std.specs.Prelude.{◌≡◌, ◌≤◌};
-ghost use Rattle.format.specs.Answer.{depthLimit};
+ghost use Rattle.format.specs.Answer.{depth_limit};
 ghost use Rattle.checker.specs.Checked.{checked};
 
 pub use checked::Checked;
@@ -15,7 +15,7 @@ use rows::Row;
 
 // The same with positions down to `depth`.
 pub fn check_within(table: &[u32], n: usize, data: &[u8], depth: usize) -> Checked
-    requires { depth ≤ depthLimit }
+    requires { depth ≤ depth_limit }
     ensures { result ≡ checked depth table.now n «data».now }
 {
     if n < 1 {
@@ -44,7 +44,7 @@ pub fn check_within(table: &[u32], n: usize, data: &[u8], depth: usize) -> Check
 
 // Whether the first n rows of `table` obey the row rules over `data`, with positions down to depth 32. No row behind them is looked at.
 pub fn check(table: &[u32], n: usize, data: &[u8]) -> Checked
-    ensures { result ≡ checked depthLimit table.now n «data».now }
+    ensures { result ≡ checked depth_limit table.now n «data».now }
 {
     check_within(table, n, data, format::DEPTH_LIMIT)
 }

@@ -1,13 +1,13 @@
 // The paper's numbers for the answers.
 ghost use Rattle.std.specs.Prelude.{◌≡◌};
-ghost use Rattle.checker.specs.Checked.{checkedNumber, checkedBeside};
+ghost use Rattle.checker.specs.Checked.{checked_number, checked_beside};
 
 use crate::checked::Checked;
 
 impl Checked {
     // 0 or 12.
     pub fn number(self) -> u32
-        ensures { result ≡ checkedNumber self }
+        ensures { result ≡ checked_number self }
     {
         match self {
             Checked::Right { rows: _ } => 0,
@@ -17,7 +17,7 @@ impl Checked {
 
     // The rows, or 0.
     pub fn beside(self) -> usize
-        ensures { result ≡ checkedBeside self }
+        ensures { result ≡ checked_beside self }
     {
         match self {
             Checked::Right { rows } => rows,

@@ -1,10 +1,10 @@
 // Rows that have no child.
 ghost use Rattle.std.specs.Prelude.{◌≡◌, ◌+◌, ◌≤◌, ◌<◌, length};
 ghost use Rattle.rows.specs.Table.{own_of, lent, limit};
-ghost use Rattle.registry.specs.Contracts.{chain, Below, firstIn, Based};
-ghost use Rattle.format.specs.Value.{inForeign, value, whole};
-ghost use Rattle.rules.specs.Grow.{keyRow, growKey, pointing, judged};
-ghost use Rattle.checker.specs.Contracts.{isAlone, standsAlone, extentOf, endingAt, verdictIs};
+ghost use Rattle.registry.specs.Inner.{chain, Below, first_in, Based};
+ghost use Rattle.format.specs.Value.{in_foreign, value, whole};
+ghost use Rattle.rules.specs.Grow.{key_row, grow_key, pointing, judged};
+ghost use Rattle.checker.specs.Inner.{is_alone, stands_alone, extent_of, ending_at, verdict_is};
 
 use crate::extent::Extent;
 use measure::told;
@@ -13,7 +13,7 @@ use rules::Shape;
 
 // A row ends where what it holds does.
 pub fn ends_at(end: u32, g: Extent) -> Extent
-    ensures { result ≡ endingAt end g }
+    ensures { result ≡ ending_at end g }
 {
     match g {
         Extent::Until { next } => {
@@ -27,9 +27,9 @@ pub fn ends_at(end: u32, g: Extent) -> Extent
 }
 
 // A record's key, by its words.
-fn key_row(s: &[u8], row: usize, w: Row) -> Extent
+fn key_row_lem(s: &[u8], row: usize, w: Row) -> Extent
     requires { row < limit }
-    ensures { result ≡ extentOf (keyRow s.now row w) }
+    ensures { result ≡ extent_of (key_row s.now row w) }
 {
     if w.kind != Row::KEY {
         return Extent::Broken;
@@ -43,10 +43,10 @@ fn key_row(s: &[u8], row: usize, w: Row) -> Extent
 // A record's key, at `row`.
 pub fn check_key(table: &[u32], n: usize, s: &[u8], row: usize) -> Extent
     requires { (n ≤ lent table.now) × (n ≤ limit) }
-    ensures { result ≡ extentOf (growKey table.now n s.now row) }
+    ensures { result ≡ extent_of (grow_key table.now n s.now row) }
 {
     if row < n {
-        return key_row(s, row, rows::row_at(table, row));
+        return key_row_lem(s, row, rows::row_at(table, row));
     }
     Extent::Broken
 }
@@ -54,7 +54,7 @@ pub fn check_key(table: &[u32], n: usize, s: &[u8], row: usize) -> Extent
 // Whether a row of that shape, with that end, has no child and ends behind itself.
 fn is_alone(shape: Shape, row: usize, end: u32) -> bool
     requires { row < limit }
-    ensures { result ≡ isAlone shape row end }
+    ensures { result ≡ is_alone shape row end }
 {
     match shape {
         Shape::Bad => false,
@@ -71,7 +71,7 @@ fn is_alone(shape: Shape, row: usize, end: u32) -> bool
 // end is asked first: it tells a holder without a look at its words.
 pub fn stands_alone(table: &[u32], n: usize, s: &[u8], row: usize) -> bool
     requires { (n ≤ lent table.now) × (n ≤ limit) }
-    ensures { result ≡ standsAlone table.now n s.now row }
+    ensures { result ≡ stands_alone table.now n s.now row }
 {
     if n <= row {
         return false;
@@ -85,8 +85,8 @@ pub fn stands_alone(table: &[u32], n: usize, s: &[u8], row: usize) -> bool
 
 // A reference: its entry is in force, and stands at the row that it says.
 pub fn check_reference(table: &[u32], row: usize, base: usize, around: usize, w: Row) -> Extent
-    requires { (row ≤ lent table.now) × (row < limit) × Below table.now (firstIn base) around row × Based table.now base around }
-    ensures { result ≡ extentOf (pointing (chain table.now (firstIn base) around) row (own_of w)) }
+    requires { (row ≤ lent table.now) × (row < limit) × Below table.now (first_in base) around row × Based table.now base around }
+    ensures { result ≡ extent_of (pointing (chain table.now (first_in base) around) row (own_of w)) }
 {
     let number = rows::number(w.w0);
     if number < around {
@@ -102,7 +102,7 @@ pub fn check_reference(table: &[u32], row: usize, base: usize, around: usize, w:
 // The verdict of a damaged body is the number that reading it gave.
 fn verdict_is(row: usize, w: Row, number: u32) -> Extent
     requires { row < limit }
-    ensures { result ≡ verdictIs row w.w2 number }
+    ensures { result ≡ verdict_is row w.w2 number }
 {
     if w.w2 == number {
         return Extent::Until { next: row + 1 };
@@ -113,7 +113,7 @@ fn verdict_is(row: usize, w: Row, number: u32) -> Extent
 // A damaged foreign body: its bytes are measured where they stand.
 pub fn check_damaged(s: &[u8], row: usize, levels: usize, around: usize, w: Row) -> Extent
     requires { (row < limit) × (w.w0 + w.w1 ≤ length s.now) × (length s.now ≤ limit) }
-    ensures { result ≡ extentOf (judged row (own_of w) (whole (w.w0 + w.w1) (value levels s.now (inForeign around) w.w0 (w.w0 + w.w1)))) }
+    ensures { result ≡ extent_of (judged row (own_of w) (whole (w.w0 + w.w1) (value levels s.now (in_foreign around) w.w0 (w.w0 + w.w1)))) }
 {
     let place = rows::number(w.w0);
     let end = place + rows::number(w.w1);

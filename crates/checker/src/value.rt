@@ -1,13 +1,13 @@
 // Value checking calls child checking, which calls value checking again, the levels left falling at each round.
 ghost use Rattle.std.specs.Prelude.{◌≡◌, [], ◌+◌, ◌≤◌, ◌<◌, length};
 ghost use Rattle.rows.specs.Table.{own_of, lent, limit};
-ghost use Rattle.rows.specs.Kinds.{declarationOwn};
-ghost use Rattle.registry.specs.Contracts.{chain, firstIn, Based};
+ghost use Rattle.rows.specs.Kinds.{declaration_own};
+ghost use Rattle.registry.specs.Inner.{chain, first_in, Based};
 ghost use Rattle.format.specs.declared.head.Children.TheVariants.{Entries};
-ghost use Rattle.format.specs.Value.{inForce, is_key};
+ghost use Rattle.format.specs.Value.{in_force, is_key};
 ghost use Rattle.rules.specs.Shape.{shape_of};
-ghost use Rattle.rules.specs.Grow.{item, grows, overEntries, byShape, grow};
-ghost use Rattle.checker.specs.Contracts.{EntriesBefore, EntriesBeforeChild, BasedForChild, extentOf, extentAll};
+ghost use Rattle.rules.specs.Grow.{item, grows, over_entries, by_shape, grow};
+ghost use Rattle.checker.specs.Inner.{EntriesBefore, EntriesBeforeChild, BasedForChild, extent_of, extent_all};
 
 use crate::extent::Extent;
 use crate::one::{check_damaged, check_key, check_reference, ends_at, stands_alone};
@@ -16,7 +16,7 @@ use rows::Row;
 use rules::Shape;
 
 // One value position, from its own row on; `levels` are left, its own with them, and the `around` entries in force have that base.
-#[cycle(check_child_check_children_check_declared_check_row_check_value)]
+#[cycle(checking)]
 pub fn check_value(
     table: &[u32],
     n: usize,
@@ -26,8 +26,8 @@ pub fn check_value(
     base: usize,
     around: usize,
 ) -> Extent
-    requires { EntriesBefore table.now n (firstIn base) around row × Based table.now base around × (length s.now ≤ limit) }
-    ensures { result ≡ extentOf (grow table.now n s.now levels (chain table.now (firstIn base) around) row) }
+    requires { EntriesBefore table.now n (first_in base) around row × Based table.now base around × (length s.now ≤ limit) }
+    ensures { result ≡ extent_of (grow table.now n s.now levels (chain table.now (first_in base) around) row) }
 {
     if levels == 0 {
         return Extent::Broken;
@@ -42,7 +42,7 @@ pub fn check_value(
 }
 
 // A row by its shape; below it `levels` are left.
-#[cycle(check_child_check_children_check_declared_check_row_check_value)]
+#[cycle(checking)]
 fn check_row(
     table: &[u32],
     n: usize,
@@ -54,9 +54,9 @@ fn check_row(
     w: Row,
     shape: Shape,
 ) -> Extent
-    requires entries_before { EntriesBefore table.now n (firstIn base) around row × Based table.now base around × (row < n) × (length s.now ≤ limit) }
+    requires entries_before { EntriesBefore table.now n (first_in base) around row × Based table.now base around × (row < n) × (length s.now ≤ limit) }
     requires shape_value { shape ≡ shape_of s.now (own_of w) }
-    ensures { result ≡ extentOf (byShape table.now n s.now (grow table.now n s.now levels) levels (chain table.now (firstIn base) around) row (own_of w) shape) }
+    ensures { result ≡ extent_of (by_shape table.now n s.now (grow table.now n s.now levels) levels (chain table.now (first_in base) around) row (own_of w) shape) }
 {
     match shape {
         Shape::Bad => Extent::Broken,
@@ -78,7 +78,7 @@ fn check_row(
 }
 
 // A declaration's entries from `row` on, and its value behind them.
-#[cycle(check_child_check_children_check_declared_check_row_check_value)]
+#[cycle(checking)]
 fn check_declared(
     table: &[u32],
     n: usize,
@@ -88,7 +88,7 @@ fn check_declared(
     count: usize,
 ) -> Extent
     requires { (n ≤ lent table.now) × (n ≤ limit) × (row ≤ n) × (length s.now ≤ limit) }
-    ensures { result ≡ extentOf (overEntries (grow table.now n s.now levels) (declarationOwn count) row (grows table.now n s.now (grow table.now n s.now levels) Entries [] 0 count row)) }
+    ensures { result ≡ extent_of (over_entries (grow table.now n s.now levels) (declaration_own count) row (grows table.now n s.now (grow table.now n s.now levels) Entries [] 0 count row)) }
 {
     let es = check_children(table, n, s, row, levels, row, 0, Children::Entries, count);
     match es {
@@ -101,7 +101,7 @@ fn check_declared(
 }
 
 // Child number i of a holder.
-#[cycle(check_child_check_children_check_declared_check_row_check_value)]
+#[cycle(checking)]
 fn check_child(
     table: &[u32],
     n: usize,
@@ -113,8 +113,8 @@ fn check_child(
     children: Children,
     i: usize,
 ) -> Extent
-    requires { EntriesBefore table.now n (firstIn base) (inForce children around i) row × Based table.now base (inForce children around i) × (length s.now ≤ limit) }
-    ensures { result ≡ extentOf (item table.now n s.now (is_key children i) (grow table.now n s.now levels) (chain table.now (firstIn base) (inForce children around i)) row) }
+    requires { EntriesBefore table.now n (first_in base) (in_force children around i) row × Based table.now base (in_force children around i) × (length s.now ≤ limit) }
+    ensures { result ≡ extent_of (item table.now n s.now (is_key children i) (grow table.now n s.now levels) (chain table.now (first_in base) (in_force children around i)) row) }
 {
     if children.is_key(i) {
         return check_key(table, n, s, row);
@@ -128,7 +128,7 @@ fn check_child(
 }
 
 // count children, back to back.
-#[cycle(check_child_check_children_check_declared_check_row_check_value)]
+#[cycle(checking)]
 fn check_children(
     table: &[u32],
     n: usize,
@@ -140,8 +140,8 @@ fn check_children(
     children: Children,
     count: usize,
 ) -> Extent
-    requires { EntriesBeforeChild table.now n (firstIn base) around children 0 row × BasedForChild table.now base around children × (length s.now ≤ limit) }
-    ensures { result ≡ extentAll (grows table.now n s.now (grow table.now n s.now levels) children (chain table.now (firstIn base) (inForce children around 0)) 0 count row) }
+    requires { EntriesBeforeChild table.now n (first_in base) around children 0 row × BasedForChild table.now base around children × (length s.now ≤ limit) }
+    ensures { result ≡ extent_all (grows table.now n s.now (grow table.now n s.now levels) children (chain table.now (first_in base) (in_force children around 0)) 0 count row) }
 {
     let mut i = 0;
     let mut here = row;

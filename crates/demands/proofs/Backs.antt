@@ -8,19 +8,19 @@ use lib.ListN.{length, get_or, take, drop}
 use lib.Seq.{sets, take_at}
 use lib.Dec.{leb}
 use borrow.Author.Tests.{le-leb, leb-true}
-use Rattle.lists.proofs.Sets.{sets-front}
+use Rattle.lists.proofs.Sets.{sets_front}
 use Rattle.rows.specs.Table.{limit}
 use Rattle.format.specs.declared.answer.Answer.{Answer}
-use Rattle.format.specs.Answer.{answer, tableAfter}
-use Rattle.rules.specs.Grow.{rulesHold}
+use Rattle.format.specs.Answer.{answer, table_after}
+use Rattle.rules.specs.Grow.{rules_hold}
 use Rattle.writer.specs.declared.written.Written.{Written}
 use Rattle.writer.specs.declared.written.Written.TheVariants.{Done, BadTable, TooLarge, NoRoom}
-use Rattle.writer.specs.Written.{documentOf, fitted, written, left, outputAfter}
+use Rattle.writer.specs.Written.{document_of, fitted, written, left, output_after}
 use Rattle.demands.specs.declared.back.Back.{Back}
 use Rattle.demands.specs.declared.back.Back.TheVariants.{Unwritten, Read}
 use Rattle.demands.specs.Alike.{SameRows}
-use Rattle.demands.specs.Back.{readBack, backAfter, backOf, tableBack, ReadsBack}
-use Rattle.demands.proofs.Reading.{accepted-back, rows_back, rules-back}
+use Rattle.demands.specs.Back.{read_back, back_after, back_of, table_back, ReadsBack}
+use Rattle.demands.proofs.Reading.{accepted_back, rows_back, rules_back}
 
 -- ---- what the writer's answers mean
 
@@ -28,8 +28,8 @@ pub record Fitted (needed room used : ℕ) : Type 0 where
   pub all : used ≡ needed
   pub within : needed ≤ room
 
-fitted-done : (needed room used : ℕ) → fitted needed room ≡ Done used → Fitted needed room used
-fitted-done needed room used = of (leb needed limit) (leb needed room) refl
+fitted_done : (needed room used : ℕ) → fitted needed room ≡ Done used → Fitted needed room used
+fitted_done needed room used = of (leb needed limit) (leb needed room) refl
   where
     of : (a b : Bool) → leb needed room ≡ b → cond a (cond b (Done needed) (NoRoom needed)) (TooLarge needed) ≡ Done used → Fitted needed room used
     of true true q e = record { all = cc; within = leb-true needed room q }
@@ -38,60 +38,60 @@ fitted-done needed room used = of (leb needed limit) (leb needed room) refl
 
 module _ (depth : ℕ) (table : List ℕ) (n : ℕ) (s : List ℕ) (out back : List ℕ) where
   abbrev D : List ℕ
-  D = documentOf depth table n s
+  D = document_of depth table n s
 
   abbrev R : ℕ
   R = length out
 
   module _ (w : Written) (e : w ≡ written depth table n s R) where
-    done-fits : (used : ℕ) → w ≡ Done used → Fitted (length D) R used
+    done_fits : (used : ℕ) → w ≡ Done used → Fitted (length D) R used
     unfolding written
-    done-fits used q = of (rulesHold depth table n s) (sym e ∙ q)
+    done_fits used q = of (rules_hold depth table n s) (sym e ∙ q)
       where
         of : (b : Bool) → cond b (fitted (length D) R) BadTable ≡ Done used → Fitted (length D) R used
-        of true f = fitted-done (length D) R used f
+        of true f = fitted_done (length D) R used f
         of false f = absurd (let z : ◌≡◌ {A = ℕ} 0 1 = cc in omega arith)
 
-    module _ (used : ℕ) (q : w ≡ Done used) (out' : List ℕ) (o : out' ≡ outputAfter depth table n s out) where
+    module _ (used : ℕ) (q : w ≡ Done used) (out' : List ℕ) (o : out' ≡ output_after depth table n s out) where
       f : Fitted (length D) R used
-      f = done-fits used q
+      f = done_fits used q
 
       laid : out' ≡ sets out 0 D
-      unfolding outputAfter
+      unfolding output_after
       laid = o ∙ ap (λ (x : Written). left x D out) (sym e ∙ q)
 
       pub front : take used out' ≡ D
-      front = ap (take used) (laid ∙ sets-front out D f.within) ∙ take_at D (drop (length D) out) used (sym f.all)
+      front = ap (take used) (laid ∙ sets_front out D f.within) ∙ take_at D (drop (length D) out) used (sym f.all)
 
       pub front_long : used ≡ length (take used out')
       front_long = f.all ∙ ap length (sym front)
 
-      pub used-within : length out' ≡ R → used ≤ length out'
-      used-within l = omega (arith, l, f.all, f.within)
+      pub used_within : length out' ≡ R → used ≤ length out'
+      used_within l = omega (arith, l, f.all, f.within)
 
-      pub read_back : (a : Answer) → a ≡ answer depth (take used out') back → Read a ≡ backOf depth table n s R back
-      unfolding backOf
-      read_back a g = ap Read (g ∙ ap (λ (x : List ℕ). answer depth x back) front) ∙ ap (λ (x : Written). readBack depth x D back) (sym q ∙ e)
+      pub read_back_lem : (a : Answer) → a ≡ answer depth (take used out') back → Read a ≡ back_of depth table n s R back
+      unfolding back_of
+      read_back_lem a g = ap Read (g ∙ ap (λ (x : List ℕ). answer depth x back) front) ∙ ap (λ (x : Written). read_back depth x D back) (sym q ∙ e)
 
-      pub table-back : (after : List ℕ) → after ≡ tableAfter depth (take used out') back → after ≡ tableBack depth table n s R back
-      unfolding tableBack
-      table-back after g = g ∙ ap (λ (x : List ℕ). tableAfter depth x back) front ∙ ap (λ (x : Written). backAfter depth x D back) (sym q ∙ e)
+      pub table-back : (after : List ℕ) → after ≡ table_after depth (take used out') back → after ≡ table_back depth table n s R back
+      unfolding table_back
+      table-back after g = g ∙ ap (λ (x : List ℕ). table_after depth x back) front ∙ ap (λ (x : Written). back_after depth x D back) (sym q ∙ e)
 
-    pub unwritten : ((used : ℕ) → w ≡ Done used → ⊥) → Unwritten w ≡ backOf depth table n s R back
-    unfolding backOf
-    unwritten g = of w g ∙ ap (λ (x : Written). readBack depth x D back) e
+    pub unwritten : ((used : ℕ) → w ≡ Done used → ⊥) → Unwritten w ≡ back_of depth table n s R back
+    unfolding back_of
+    unwritten g = of w g ∙ ap (λ (x : Written). read_back depth x D back) e
       where
-        of : (x : Written) → ((used : ℕ) → x ≡ Done used → ⊥) → Unwritten x ≡ readBack depth x D back
+        of : (x : Written) → ((used : ℕ) → x ≡ Done used → ⊥) → Unwritten x ≡ read_back depth x D back
         of (Done used) h = absurd (h used refl)
         of BadTable h = refl
         of (TooLarge needed) h = refl
         of (NoRoom needed) h = refl
 
-    pub unread : ((used : ℕ) → w ≡ Done used → ⊥) → back ≡ tableBack depth table n s R back
-    unfolding tableBack
-    unread g = of w g ∙ ap (λ (x : Written). backAfter depth x D back) e
+    pub unread : ((used : ℕ) → w ≡ Done used → ⊥) → back ≡ table_back depth table n s R back
+    unfolding table_back
+    unread g = of w g ∙ ap (λ (x : Written). back_after depth x D back) e
       where
-        of : (x : Written) → ((used : ℕ) → x ≡ Done used → ⊥) → back ≡ backAfter depth x D back
+        of : (x : Written) → ((used : ℕ) → x ≡ Done used → ⊥) → back ≡ back_after depth x D back
         of (Done used) h = absurd (h used refl)
         of BadTable h = refl
         of (TooLarge needed) h = refl
@@ -100,29 +100,29 @@ module _ (depth : ℕ) (table : List ℕ) (n : ℕ) (s : List ℕ) (out back : L
 -- ---- the demand
 
 module _ (depth : ℕ) (table : List ℕ) (n : ℕ) (s : List ℕ) (room : ℕ) (back : List ℕ) (r : Back) (after : List ℕ) where
-  is-done : rulesHold depth table n s ≡ true → length (documentOf depth table n s) ≤ limit → length (documentOf depth table n s) ≤ room
-      → written depth table n s room ≡ Done (length (documentOf depth table n s))
+  is_done : rules_hold depth table n s ≡ true → length (document_of depth table n s) ≤ limit → length (document_of depth table n s) ≤ room
+      → written depth table n s room ≡ Done (length (document_of depth table n s))
   unfolding written
-  is-done y few fits = rw (y, le-leb (length (documentOf depth table n s)) limit few, le-leb (length (documentOf depth table n s)) room fits)
+  is_done y few fits = rw (y, le-leb (length (document_of depth table n s)) limit few, le-leb (length (document_of depth table n s)) room fits)
 
-  pub reads-back : ((i : ℕ) → get_or table i 0 < 2 ^ 32) → r ≡ backOf depth table n s room back → after ≡ tableBack depth table n s room back → ReadsBack depth table n s room back r after
-  unfolding backOf tableBack ReadsBack
-  reads-back fit e g y few fits held =
-      let D : List ℕ = documentOf depth table n s in
-      let q : after ≡ tableAfter depth D back = g ∙ ap (λ (w : Written). backAfter depth w D back) (is-done y few fits) in
+  pub reads_back : ((i : ℕ) → get_or table i 0 < 2 ^ 32) → r ≡ back_of depth table n s room back → after ≡ table_back depth table n s room back → ReadsBack depth table n s room back r after
+  unfolding back_of table_back ReadsBack
+  reads_back fit e g y few fits held =
+      let D : List ℕ = document_of depth table n s in
+      let q : after ≡ table_after depth D back = g ∙ ap (λ (w : Written). back_after depth w D back) (is_done y few fits) in
       record {
-        accepted = e ∙ ap (λ (w : Written). readBack depth w D back) (is-done y few fits) ∙ ap Read (accepted-back depth table n s fit y few back held);
+        accepted = e ∙ ap (λ (w : Written). read_back depth w D back) (is_done y few fits) ∙ ap Read (accepted_back depth table n s fit y few back held);
         rows = subst (λ (x : List ℕ). SameRows table s x D n) (sym q) (rows_back depth table n s fit y few back held);
-        right = subst (λ (x : List ℕ). rulesHold depth x n D ≡ true) (sym q) (rules-back depth table n s fit y few back held);
+        right = subst (λ (x : List ℕ). rules_hold depth x n D ≡ true) (sym q) (rules_back depth table n s fit y few back held);
       }
 
 -- ---- an answer that is not Done
 
-pub bad-undone : (w : Written) → w ≡ BadTable → (used : ℕ) → w ≡ Done used → ⊥
-bad-undone w e used q = let z : ◌≡◌ {A = ℕ} 0 1 = cc in omega arith
+pub bad_undone : (w : Written) → w ≡ BadTable → (used : ℕ) → w ≡ Done used → ⊥
+bad_undone w e used q = let z : ◌≡◌ {A = ℕ} 0 1 = cc in omega arith
 
-pub large-undone : (w : Written) (needed : ℕ) → w ≡ TooLarge needed → (used : ℕ) → w ≡ Done used → ⊥
-large-undone w needed e used q = let z : ◌≡◌ {A = ℕ} 0 1 = cc in omega arith
+pub large_undone : (w : Written) (needed : ℕ) → w ≡ TooLarge needed → (used : ℕ) → w ≡ Done used → ⊥
+large_undone w needed e used q = let z : ◌≡◌ {A = ℕ} 0 1 = cc in omega arith
 
-pub short-undone : (w : Written) (needed : ℕ) → w ≡ NoRoom needed → (used : ℕ) → w ≡ Done used → ⊥
-short-undone w needed e used q = let z : ◌≡◌ {A = ℕ} 0 1 = cc in omega arith
+pub short_undone : (w : Written) (needed : ℕ) → w ≡ NoRoom needed → (used : ℕ) → w ≡ Done used → ⊥
+short_undone w needed e used q = let z : ◌≡◌ {A = ℕ} 0 1 = cc in omega arith

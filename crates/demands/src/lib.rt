@@ -2,9 +2,9 @@
 mod back;
 
 ghost use Rattle.std.specs.Prelude.{◌≡◌, length};
-ghost use Rattle.format.specs.Answer.{depthLimit};
-ghost use Rattle.writer.specs.Written.{outputAfter};
-ghost use Rattle.demands.specs.Back.{backOf, tableBack, ReadsBack};
+ghost use Rattle.format.specs.Answer.{depth_limit};
+ghost use Rattle.writer.specs.Written.{output_after};
+ghost use Rattle.demands.specs.Back.{back_of, table_back, ReadsBack};
 
 pub use back::Back;
 use writer::Written;
@@ -17,10 +17,10 @@ pub fn write_and_read(
     out: &mut [u8],
     back: &mut [u32],
 ) -> Back
-    ensures value { result ≡ backOf depthLimit table.now n «data».now (length out.old) back.old }
-    ensures out_after { out.new ≡ outputAfter depthLimit table.now n «data».now out.old }
-    ensures back_after { back.new ≡ tableBack depthLimit table.now n «data».now (length out.old) back.old }
-    ensures reads_back { ReadsBack depthLimit table.now n «data».now (length out.old) back.old result back.new }
+    ensures value { result ≡ back_of depth_limit table.now n «data».now (length out.old) back.old }
+    ensures out_after { out.new ≡ output_after depth_limit table.now n «data».now out.old }
+    ensures back_after { back.new ≡ table_back depth_limit table.now n «data».now (length out.old) back.old }
+    ensures reads_back { ReadsBack depth_limit table.now n «data».now (length out.old) back.old result back.new }
 {
     let w = writer::write(table, n, data, out);
     match w {

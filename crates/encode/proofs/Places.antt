@@ -5,56 +5,56 @@ use mathlib.Core.Bool.{Bool, true, false, cond}
 use mathlib.Core.List.{List, []}
 use lib.ListN.{take, drop}
 use Rattle.rows.specs.Table.{Own}
-use Rattle.rows.specs.Kinds.{damagedOwn}
+use Rattle.rows.specs.Kinds.{damaged_own}
 use Rattle.format.specs.declared.refusal.Refusal.{Refusal}
 use Rattle.format.specs.declared.refusal.Refusal.TheVariants as why
-use Rattle.format.specs.Refusal.{refusalNumber}
+use Rattle.format.specs.Refusal.{refusal_number}
 use Rattle.rules.specs.declared.kind.Kind.{Kind}
 use Rattle.rules.specs.declared.kind.Kind.TheVariants.{Damaged}
 use Rattle.rules.specs.Shape.{named}
-use Rattle.encode.specs.Encode.{hasBytes, payloadOf, moved}
-use Rattle.rows.specs.Table.{withPlace}
+use Rattle.encode.specs.Encode.{has_bytes, payload_of, moved}
+use Rattle.rows.specs.Table.{with_place}
 
 -- a row with its payload, if it has one, at `place`
-abbrev pub movedIf : Bool → Own → ℕ → Own
-movedIf b o place = cond b (withPlace o place) o
+abbrev pub moved_if : Bool → Own → ℕ → Own
+moved_if b o place = cond b (with_place o place) o
 
 module _ (o : Own) (place : ℕ) where
   pub moved-kind : (moved o place).kind ≡ o.kind
-  moved-kind = of (hasBytes (named o))
+  moved-kind = of (has_bytes (named o))
     where
-      of : (b : Bool) → (movedIf b o place).kind ≡ o.kind
+      of : (b : Bool) → (moved_if b o place).kind ≡ o.kind
       of true = refl
       of false = refl
 
   pub moved_named : named (moved o place) ≡ named o
   unfolding named
-  moved_named = of (hasBytes (named o))
+  moved_named = of (has_bytes (named o))
     where
-      of : (b : Bool) → named (movedIf b o place) ≡ named o
+      of : (b : Bool) → named (moved_if b o place) ≡ named o
       of true = refl
       of false = refl
 
   pub moved-again : (again : ℕ) → moved (moved o place) again ≡ moved o again
-  moved-again again = ap (λ (K : Kind). movedIf (hasBytes K) (moved o place) again) moved_named ∙ of (hasBytes (named o))
+  moved-again again = ap (λ (K : Kind). moved_if (has_bytes K) (moved o place) again) moved_named ∙ of (has_bytes (named o))
     where
-      of : (b : Bool) → movedIf b (movedIf b o place) again ≡ movedIf b o again
+      of : (b : Bool) → moved_if b (moved_if b o place) again ≡ moved_if b o again
       of true = refl
       of false = refl
 
   -- its payload is what stands there
-  pub moved-payload : (s : List ℕ) → payloadOf s (moved o place) ≡ cond (hasBytes (named o)) (take o.w1 (drop place s)) []
-  moved-payload s = ap (λ (K : Kind). cond (hasBytes K) (take (moved o place).w1 (drop (moved o place).w0 s)) []) moved_named ∙ of (hasBytes (named o))
+  pub moved_payload : (s : List ℕ) → payload_of s (moved o place) ≡ cond (has_bytes (named o)) (take o.w1 (drop place s)) []
+  moved_payload s = ap (λ (K : Kind). cond (has_bytes K) (take (moved o place).w1 (drop (moved o place).w0 s)) []) moved_named ∙ of (has_bytes (named o))
     where
-      of : (b : Bool) → cond b (take (movedIf b o place).w1 (drop (movedIf b o place).w0 s)) [] ≡ cond b (take o.w1 (drop place s)) []
+      of : (b : Bool) → cond b (take (moved_if b o place).w1 (drop (moved_if b o place).w0 s)) [] ≡ cond b (take o.w1 (drop place s)) []
       of true = refl
       of false = refl
 
   -- a row without bytes of the data has no place
-  pub moved-bare : hasBytes (named o) ≡ false → moved o place ≡ o
-  moved-bare b = rw b
+  pub moved_bare : has_bytes (named o) ≡ false → moved o place ≡ o
+  moved_bare b = rw b
 
-pub damaged-named : (place n : ℕ) (e : Refusal) → named (damagedOwn place n (refusalNumber e)) ≡ Damaged
+pub damaged-named : (place n : ℕ) (e : Refusal) → named (damaged_own place n (refusal_number e)) ≡ Damaged
 unfolding named
 damaged-named place n why.Short = refl
 damaged-named place n why.Marker = refl

@@ -5,7 +5,7 @@ use Prim.Native.Nat.{ℕ}
 use Rattle.rows.specs.Table.{Own}
 use Rattle.format.specs.Tree.{Tree, leaf, refer, hold, declare, foreign, damaged, Trees}
 use Rattle.format.specs.Tree as trees
-use Rattle.encode.specs.Encode.{payloadOf, moved}
+use Rattle.encode.specs.Encode.{payload_of, moved}
 
 mutual
   pub data Said : Type 0 where
@@ -23,12 +23,12 @@ mutual
 -- "reads back as the same rows and payload bytes, places aside"; "In reading back, a damaged body's bytes count as payload."
 unfoldable mutual
   pub said : List ℕ → Tree → Said
-  said s (leaf o) = one (moved o 0) (payloadOf s o)
+  said s (leaf o) = one (moved o 0) (payload_of s o)
   said s (refer o) = one o []
   said s (hold o ts) = over o (saids s ts)
   said s (declare o es t) = under o (saids s es) (said s t)
   said s (foreign o t) = over o (more (said s t) none)
-  said s (damaged o) = one (moved o 0) (payloadOf s o)
+  said s (damaged o) = one (moved o 0) (payload_of s o)
 
   pub saids : List ℕ → Trees → Saids
   saids s trees.none = none

@@ -10,7 +10,7 @@ use lib.Seq.{sets, length-take-le, drop-drop}
 use Rattle.wide.specs.declared.wide.Wide.{Wide}
 use Rattle.wide.specs.Number.{number}
 use Rattle.wide.specs.Words.{wide_of}
-use Rattle.wide.specs.Body.{bodyValue}
+use Rattle.wide.specs.Body.{body_value}
 use Rattle.wide.proofs.Numbers.{number_lt, bytes-all, bytes_take, bytes_drop}
 use Rattle.feed.specs.Words.{words_in}
 
@@ -20,20 +20,20 @@ module _ (s : List ℕ) (at size : ℕ) (few : size ≤ 4) (there : at + size �
   abbrev bs : List ℕ
   bs = take size (drop at s)
 
-  bs-length : length bs ≡ size
-  bs-length = length-take-le size (drop at s) (simp length-drop (omega arith))
+  bs_length : length bs ≡ size
+  bs_length = length-take-le size (drop at s) (simp length-drop (omega arith))
 
-  bs-low : number bs < 256 ^ size
-  bs-low = subst (λ (k : ℕ). number bs < 256 ^ k) bs-length (number_lt bs (bytes_take size (drop at s) (bytes_drop at s (bytes-all s bytes))))
+  bs_low : number bs < 256 ^ size
+  bs_low = subst (λ (k : ℕ). number bs < 256 ^ k) bs_length (number_lt bs (bytes_take size (drop at s) (bytes_drop at s (bytes-all s bytes))))
 
-  pub number_is : (w : Wide) → w ≡ wide_of (bodyValue false bs) → w.w0 ≡ number bs
-  unfolding wide_of bodyValue
+  pub number_is : (w : Wide) → w ≡ wide_of (body_value false bs) → w.w0 ≡ number bs
+  unfolding wide_of body_value
   number_is w e =
       let p : 256 ^ size ≤ 256 ^ 4 = pow-le-pow_right (zero-lt-suc 255) few in
-      ap (λ (x : Wide). x.w0) e ∙ mod-eq_of_lt (omega (arith, bs-low))
+      ap (λ (x : Wide). x.w0) e ∙ mod-eq_of_lt (omega (arith, bs_low))
 
-  pub number-low : (w : Wide) → w ≡ wide_of (bodyValue false bs) → w.w0 < 256 ^ size
-  number-low w e = omega (arith, number_is w e, bs-low)
+  pub number-low : (w : Wide) → w ≡ wide_of (body_value false bs) → w.w0 < 256 ^ size
+  number-low w e = omega (arith, number_is w e, bs_low)
 
 -- ---- a table: what is left to fill completes it
 
@@ -43,14 +43,14 @@ pub record Filling (before : List ℕ) (words : ℕ) (s now : List ℕ) (i : ℕ
   pub same : sets now i (words_in (words - i) (drop (4 * i) s)) ≡ sets before 0 (words_in words s)
 
 module _ (before : List ℕ) (words : ℕ) (s : List ℕ) where
-  pub fill-first : Filling before words s before 0
-  fill-first =
+  pub fill_first : Filling before words s before 0
+  fill_first =
       record { long = refl; upto = omega arith; same = let e : words - 0 ≡ words = omega arith in ap (λ (k : ℕ). sets before 0 (words_in k s)) e }
 
   module _ (now : List ℕ) (i : ℕ) (v : Filling before words s now i) where
-    pub fill-next : (x : ℕ) → i < words → x ≡ number (take 4 (drop (4 * i) s)) → Filling before words s (set now i x) (i + 1)
+    pub fill_next : (x : ℕ) → i < words → x ≡ number (take 4 (drop (4 * i) s)) → Filling before words s (set now i x) (i + 1)
     unfolding words_in
-    fill-next x h e =
+    fill_next x h e =
         let p : words - i ≡ suc (words - (i + 1)) = omega arith in
         let q : 4 * i + 4 ≡ 4 * (i + 1) = omega arith in
         let d : drop 4 (drop (4 * i) s) ≡ drop (4 * (i + 1)) s = drop-drop 4 (4 * i) s ∙ ap (λ (k : ℕ). drop k s) q in
@@ -64,6 +64,6 @@ module _ (before : List ℕ) (words : ℕ) (s : List ℕ) where
           same = ap (λ (k : ℕ). sets (set now i x) k left) f ∙ sym (ap (sets now i) r) ∙ v.same;
         }
 
-    pub fill-last : words ≤ i → now ≡ sets before 0 (words_in words s)
+    pub fill_last : words ≤ i → now ≡ sets before 0 (words_in words s)
     unfolding words_in
-    fill-last h = let z : words - i ≡ 0 = omega arith in sym (ap (λ (k : ℕ). sets now i (words_in k (drop (4 * i) s))) z) ∙ v.same
+    fill_last h = let z : words - i ≡ 0 = omega arith in sym (ap (λ (k : ℕ). sets now i (words_in k (drop (4 * i) s))) z) ∙ v.same

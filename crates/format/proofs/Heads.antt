@@ -11,14 +11,14 @@ use borrow.Author.Tests.{ltb-true, ltb-false, leb-true, eqb-false}
 use Rattle.wide.specs.Number.{number}
 use Rattle.wide.specs.Body.{size_at}
 use Rattle.wide.specs.Family.{Family, Coded, is, short, other, coded}
-use Rattle.wide.specs.Members.{textLength, binaryLength, arrayCount, recordCount, mapCount, keyLength, referenceNumber, declarationCount, foreignLength}
-use Rattle.wide.proofs.Ranks.{size_low, size-high}
-use Rattle.wide.proofs.Families.{cond-case, Takes, coded-takes}
+use Rattle.wide.specs.Members.{text_length, binary_length, array_count, record_count, map_count, key_length, reference_number, declaration_count, foreign_length}
+use Rattle.wide.proofs.Ranks.{size_low, size_high}
+use Rattle.wide.proofs.Families.{cond-case, Takes, coded_takes}
 use Rattle.text.specs.declared.answer.Text.{Text}
 use Rattle.text.specs.declared.answer.Text.TheVariants.{WellFormed, IllFormed}
 use Rattle.text.specs.Check.{text_of}
 use Rattle.rows.specs.Table.{limit}
-use Rattle.rows.specs.Kinds.{kindFloat, kindText, kindBinary}
+use Rattle.rows.specs.Kinds.{kind_float, kind_text, kind_binary}
 use Rattle.format.specs.declared.refusal.Refusal.{Refusal}
 use Rattle.format.specs.declared.refusal.Refusal.TheVariants as why
 use Rattle.format.specs.declared.head.Count.{Count}
@@ -31,7 +31,7 @@ use Rattle.format.specs.declared.head.Holder.{Holder}
 use Rattle.format.specs.declared.head.Holder.TheVariants.{Array, Record, Map}
 use Rattle.format.specs.declared.head.Head.{Head}
 use Rattle.format.specs.declared.head.Head.TheVariants.{Leaf, Hold, Refer, Declare, Foreign, Refuse}
-use Rattle.format.specs.Head.{Marker, constant, float, text, array, entries, map, binary, special, nothing, signedBody, unsignedBody, small, char, reference, markerOf, between, count_of, countAt, bodied, spelled, spellingOf, codepoint, charBody, charHead, floatSize, textHead, binaryHead, holderHead, referHead, declareHead, foreignHead, specialHead, headBy, headAt, key_at}
+use Rattle.format.specs.Head.{Marker, constant, float, text, array, entries, map, binary, special, nothing, signed_body, unsigned_body, small, char, reference, marker_of, between, count_of, count_at, bodied, spelled, spelling_of, codepoint, char_body, char_head, float_size, text_head, binary_head, holder_head, refer_head, declare_head, foreign_head, special_head, head_by, head_at, key_at}
 
 -- ---- a length, count or number
 
@@ -45,18 +45,18 @@ abbrev pub Counted : ℕ → ℕ → Count → Type 0
 Counted at stop (Is n next) = CountAt at stop n next
 Counted at stop (Not e) = Unit {0}
 
-coded-counted : (at stop l : ℕ) → l ≤ stop - at → (c : Coded) → Takes 1 l c → Counted at stop (count_of at c)
-coded-counted at stop l h (is n used) t =
+coded_counted : (at stop l : ℕ) → l ≤ stop - at → (c : Coded) → Takes 1 l c → Counted at stop (count_of at c)
+coded_counted at stop l h (is n used) t =
     cond-case (Counted at stop) (leb n limit) _ _
     (λ p. record { after = omega arith; within = omega arith; few = leb-true n limit p })
     (λ _. tt)
-coded-counted at stop l h short t = tt
-coded-counted at stop l h other t = tt
+coded_counted at stop l h short t = tt
+coded_counted at stop l h other t = tt
 
-pub counted : (F : Family) (s : List ℕ) (at stop : ℕ) → Counted at stop (countAt F s at stop)
-unfolding countAt
+pub counted : (F : Family) (s : List ℕ) (at stop : ℕ) → Counted at stop (count_at F s at stop)
+unfolding count_at
 counted F s at stop =
-    coded-counted at stop (length (between s at stop)) (omega (arith, length-take (stop - at) (drop at s))) (coded F (between s at stop)) (coded-takes F (between s at stop))
+    coded_counted at stop (length (between s at stop)) (omega (arith, length-take (stop - at) (drop at s))) (coded F (between s at stop)) (coded_takes F (between s at stop))
 
 -- ---- what a head may be relied on for
 
@@ -84,9 +84,9 @@ pub record IntegerAt (at next place size : ℕ) : Type 0 where
 
 -- a float, whose marker is b; text that follows RFC 3629; or binary
 pub data Payload (s : List ℕ) (kind place size : ℕ) : Type 0 where
-  floating : (b : ℕ) → 0x03 ≤ b → b < 0x08 → kind ≡ kindFloat → size ≡ floatSize b → Payload s kind place size
-  written : kind ≡ kindText → text_of (take size (drop place s)) ≡ WellFormed → Payload s kind place size
-  plain : kind ≡ kindBinary → Payload s kind place size
+  floating : (b : ℕ) → 0x03 ≤ b → b < 0x08 → kind ≡ kind_float → size ≡ float_size b → Payload s kind place size
+  written : kind ≡ kind_text → text_of (take size (drop place s)) ≡ WellFormed → Payload s kind place size
+  plain : kind ≡ kind_binary → Payload s kind place size
 
 pub record SpanAt (s : List ℕ) (at next kind place size : ℕ) : Type 0 where
   pub begins : at < place
@@ -151,7 +151,7 @@ abbrev pub Spelled : List ℕ → ℕ → ℕ → Spelling → Type 0
 Spelled s at stop (At place size) = SpeltAt s at stop place size
 Spelled s at stop (No e) = Unit {0}
 
-spelled_at : (s : List ℕ) (at stop : ℕ) (c : Count) → Counted at stop c → Spelled s at stop (spellingOf s stop c)
+spelled_at : (s : List ℕ) (at stop : ℕ) (c : Count) → Counted at stop c → Spelled s at stop (spelling_of s stop c)
 spelled_at s at stop (Is n place) k =
     cond-case (Spelled s at stop) (leb n (stop - place)) _ _ (λ p. go (text_of (take n (drop place s))) refl (leb-true n (stop - place) p)) (λ _. tt)
   where
@@ -161,18 +161,18 @@ spelled_at s at stop (Is n place) k =
 spelled_at s at stop (Not e) k = tt
 
 module _ (s : List ℕ) (at stop : ℕ) where
-  text-stood : (x : Spelling) → Spelled s at stop x → Stood s at stop (textHead at x)
-  text-stood (At place n) k =
+  text_stood : (x : Spelling) → Spelled s at stop x → Stood s at stop (text_head at x)
+  text_stood (At place n) k =
       record {
         after = omega arith;
         within = k.within;
         content = record { begins = k.begins; ends = refl; few = k.few; payload = written refl k.spelt };
       }
-  text-stood (No e) k = refl
+  text_stood (No e) k = refl
 
-  binary-stood : (c : Count) → Counted at stop c → Stood s at stop (binaryHead at stop c)
-  binary-stood (Is n place) k =
-      bodied-case (Stood s at stop) at (holds.Span kindBinary place n) place n stop
+  binary_stood : (c : Count) → Counted at stop c → Stood s at stop (binary_head at stop c)
+  binary_stood (Is n place) k =
+      bodied-case (Stood s at stop) at (holds.Span kind_binary place n) place n stop
       (λ l.
       record {
         after = omega arith;
@@ -180,46 +180,46 @@ module _ (s : List ℕ) (at stop : ℕ) where
         content = record { begins = k.after; ends = refl; few = k.few; payload = plain refl };
       })
       refl
-  binary-stood (Not e) k = refl
+  binary_stood (Not e) k = refl
 
-  holder-stood : (h : Holder) (c : Count) → Counted at stop c → Stood s at stop (holderHead h at c)
-  holder-stood h (Is n next) k = k
-  holder-stood h (Not e) k = refl
+  holder_stood : (h : Holder) (c : Count) → Counted at stop c → Stood s at stop (holder_head h at c)
+  holder_stood h (Is n next) k = k
+  holder_stood h (Not e) k = refl
 
-  refer-stood : (c : Count) → Counted at stop c → Stood s at stop (referHead at c)
-  refer-stood (Is n next) k = k
-  refer-stood (Not e) k = refl
+  refer_stood : (c : Count) → Counted at stop c → Stood s at stop (refer_head at c)
+  refer_stood (Is n next) k = k
+  refer_stood (Not e) k = refl
 
-  declare-stood : (c : Count) → Counted at stop c → Stood s at stop (declareHead at c)
-  declare-stood (Is n next) k =
+  declare_stood : (c : Count) → Counted at stop c → Stood s at stop (declare_head at c)
+  declare_stood (Is n next) k =
       cond-case (Stood s at stop) (eqb n 0) _ _ (λ _. refl)
       (λ p. let z : n ≡ 0 → ⊥ = eqb-false n 0 p in record { after = k.after; within = k.within; few = k.few; some = omega arith })
-  declare-stood (Not e) k = refl
+  declare_stood (Not e) k = refl
 
-  foreign-stood : (c : Count) → Counted at stop c → Stood s at stop (foreignHead at stop c)
-  foreign-stood (Is n place) k =
+  foreign_stood : (c : Count) → Counted at stop c → Stood s at stop (foreign_head at stop c)
+  foreign_stood (Is n place) k =
       cond-case (Stood s at stop) (leb n (stop - place)) _ _
       (λ p. record { after = k.after; within = omega (arith, leb-true n (stop - place) p); few = k.few })
       (λ _. refl)
-  foreign-stood (Not e) k = refl
+  foreign_stood (Not e) k = refl
 
-  special-stood : Stood s at stop (specialHead s at stop)
-  special-stood =
+  special_stood : Stood s at stop (special_head s at stop)
+  special_stood =
       cond-case (Stood s at stop) (ltb (at + 1) stop) _ _
       (λ _. cond-case (Stood s at stop) (eqb (get_or s (at + 1) 0) 0x0d) _ _
-      (λ _. declare-stood (countAt declarationCount s at stop) (counted declarationCount s at stop))
+      (λ _. declare_stood (count_at declaration_count s at stop) (counted declaration_count s at stop))
       (λ _. cond-case (Stood s at stop) (eqb (get_or s (at + 1) 0) 0x00) _ _
-      (λ _. foreign-stood (countAt foreignLength s at stop) (counted foreignLength s at stop))
+      (λ _. foreign_stood (count_at foreign_length s at stop) (counted foreign_length s at stop))
       (λ _. refl)))
       (λ _. refl)
 
-  char-stood : Stood s at stop (charHead s at stop)
-  char-stood =
+  char_stood : Stood s at stop (char_head s at stop)
+  char_stood =
       cond-case (Stood s at stop) (leb 3 (stop - (at + 1))) _ _
       (λ p. allowed (number (take 3 (drop (at + 1) s))) (leb-true 3 (stop - (at + 1)) p))
       (λ _. refl)
     where
-      allowed : (c : ℕ) → 3 ≤ stop - (at + 1) → Stood s at stop (charBody at c)
+      allowed : (c : ℕ) → 3 ≤ stop - (at + 1) → Stood s at stop (char_body at c)
       allowed c l =
           cond-case (Stood s at stop) (codepoint c) _ _
           (λ p.
@@ -231,21 +231,21 @@ module _ (s : List ℕ) (at stop : ℕ) where
           (λ _. refl)
 
   -- a body behind the marker
-  integer-stood : (sign : Bool) (j : ℕ) → j < 8 → Stood s at stop (bodied at (holds.Integer sign (at + 1) (size_at j)) (at + 1) (size_at j) stop)
-  integer-stood sign j h =
+  integer_stood : (sign : Bool) (j : ℕ) → j < 8 → Stood s at stop (bodied at (holds.Integer sign (at + 1) (size_at j)) (at + 1) (size_at j) stop)
+  integer_stood sign j h =
       bodied-case (Stood s at stop) at (holds.Integer sign (at + 1) (size_at j)) (at + 1) (size_at j) stop
       (λ l.
       record {
         after = omega arith;
         within = omega (arith, size_low j h);
-        content = record { rank = j; ranked = h; sized = refl; some = size_low j h; few = size-high j h; begins = refl; ends = refl };
+        content = record { rank = j; ranked = h; sized = refl; some = size_low j h; few = size_high j h; begins = refl; ends = refl };
       })
       refl
 
-  float-stood : (b : ℕ) → at < stop → 0x03 ≤ b → b < 0x08
-      → Stood s at stop (bodied at (holds.Span kindFloat (at + 1) (floatSize b)) (at + 1) (floatSize b) stop)
-  float-stood b h low high =
-      bodied-case (Stood s at stop) at (holds.Span kindFloat (at + 1) (floatSize b)) (at + 1) (floatSize b) stop
+  float_stood : (b : ℕ) → at < stop → 0x03 ≤ b → b < 0x08
+      → Stood s at stop (bodied at (holds.Span kind_float (at + 1) (float_size b)) (at + 1) (float_size b) stop)
+  float_stood b h low high =
+      bodied-case (Stood s at stop) at (holds.Span kind_float (at + 1) (float_size b)) (at + 1) (float_size b) stop
       (λ l.
       record {
         after = omega arith;
@@ -275,8 +275,8 @@ Marked b map = Unit {0}
 Marked b binary = Unit {0}
 Marked b special = Unit {0}
 Marked b nothing = Unit {0}
-Marked b signedBody = (0x10 ≤ b) × (b < 0x18)
-Marked b unsignedBody = (0x18 ≤ b) × (b < 0x20)
+Marked b signed_body = (0x10 ≤ b) × (b < 0x18)
+Marked b unsigned_body = (0x18 ≤ b) × (b < 0x20)
 Marked b small = (0x20 ≤ b) × (b < 0x80)
 Marked b char = Unit {0}
 Marked b reference = Unit {0}
@@ -284,8 +284,8 @@ Marked b reference = Unit {0}
 below : (P : Marker → Type 0) (b n : ℕ) (x y : Marker) → (b < n → P x) → (n ≤ b → P y) → P (cond (ltb b n) x y)
 below P b n x y f g = cond-case P (ltb b n) x y (λ p. f (ltb-true b n p)) (λ p. g (ltb-false b n p))
 
-marker-marked : (b : ℕ) → Marked b (markerOf b)
-unfolding markerOf
+marker-marked : (b : ℕ) → Marked b (marker_of b)
+unfolding marker_of
 marker-marked b =
     below (Marked b) b 0x03 _ _ (λ h. h)
     (λ l. below (Marked b) b 0x08 _ _ (λ h. (l, h))
@@ -306,164 +306,164 @@ marker-marked b =
     (λ _. below (Marked b) b 0xc1 _ _ (λ _. tt) (λ _. tt)))))))))))))))))
 
 module _ (s : List ℕ) (at stop : ℕ) where
-  marker-stood : (b : ℕ) (m : Marker) → at < stop → Marked b m → Stood s at stop (headBy s at stop b m)
-  unfolding headBy
-  marker-stood b constant h k =
+  marker_stood : (b : ℕ) (m : Marker) → at < stop → Marked b m → Stood s at stop (head_by s at stop b m)
+  unfolding head_by
+  marker_stood b constant h k =
       record { after = omega arith; within = omega arith; content = record { low = omega arith; high = omega arith; ends = refl } }
-  marker-stood b small h k =
+  marker_stood b small h k =
       record { after = omega arith; within = omega arith; content = record { low = k.0; high = k.1; ends = refl } }
-  marker-stood b signedBody h k = integer-stood s at stop true (b - 0x10) (omega arith)
-  marker-stood b unsignedBody h k = integer-stood s at stop false (b - 0x18) (omega arith)
-  marker-stood b float h k = float-stood s at stop b h k.0 k.1
-  marker-stood b text h k =
-      text-stood s at stop (spellingOf s stop (countAt textLength s at stop)) (spelled_at s at stop (countAt textLength s at stop) (counted textLength s at stop))
-  marker-stood b binary h k = binary-stood s at stop (countAt binaryLength s at stop) (counted binaryLength s at stop)
-  marker-stood b char h k = char-stood s at stop
-  marker-stood b array h k = holder-stood s at stop Array (countAt arrayCount s at stop) (counted arrayCount s at stop)
-  marker-stood b entries h k = holder-stood s at stop Record (countAt recordCount s at stop) (counted recordCount s at stop)
-  marker-stood b map h k = holder-stood s at stop Map (countAt mapCount s at stop) (counted mapCount s at stop)
-  marker-stood b reference h k = refer-stood s at stop (countAt referenceNumber s at stop) (counted referenceNumber s at stop)
-  marker-stood b special h k = special-stood s at stop
-  marker-stood b nothing h k = refl
+  marker_stood b signed_body h k = integer_stood s at stop true (b - 0x10) (omega arith)
+  marker_stood b unsigned_body h k = integer_stood s at stop false (b - 0x18) (omega arith)
+  marker_stood b float h k = float_stood s at stop b h k.0 k.1
+  marker_stood b text h k =
+      text_stood s at stop (spelling_of s stop (count_at text_length s at stop)) (spelled_at s at stop (count_at text_length s at stop) (counted text_length s at stop))
+  marker_stood b binary h k = binary_stood s at stop (count_at binary_length s at stop) (counted binary_length s at stop)
+  marker_stood b char h k = char_stood s at stop
+  marker_stood b array h k = holder_stood s at stop Array (count_at array_count s at stop) (counted array_count s at stop)
+  marker_stood b entries h k = holder_stood s at stop Record (count_at record_count s at stop) (counted record_count s at stop)
+  marker_stood b map h k = holder_stood s at stop Map (count_at map_count s at stop) (counted map_count s at stop)
+  marker_stood b reference h k = refer_stood s at stop (count_at reference_number s at stop) (counted reference_number s at stop)
+  marker_stood b special h k = special_stood s at stop
+  marker_stood b nothing h k = refl
 
-  pub head-stood : Stood s at stop (headAt s at stop)
-  unfolding headAt
-  head-stood =
+  pub head_stood : Stood s at stop (head_at s at stop)
+  unfolding head_at
+  head_stood =
       cond-case (Stood s at stop) (ltb at stop) _ _
-      (λ p. marker-stood (get_or s at 0) (markerOf (get_or s at 0)) (ltb-true at stop p) (marker-marked (get_or s at 0)))
+      (λ p. marker_stood (get_or s at 0) (marker_of (get_or s at 0)) (ltb-true at stop p) (marker-marked (get_or s at 0)))
       (λ _. refl)
 
 -- ---- a key
 
-pub key-spelled : (s : List ℕ) (at stop : ℕ) → Spelled s at stop (key_at s at stop)
+pub key_spelled : (s : List ℕ) (at stop : ℕ) → Spelled s at stop (key_at s at stop)
 unfolding key_at
-key-spelled s at stop = spelled_at s at stop (countAt keyLength s at stop) (counted keyLength s at stop)
+key_spelled s at stop = spelled_at s at stop (count_at key_length s at stop) (counted key_length s at stop)
 
 -- ---- one law for each part: c is the number at `at`
 
-module _ (F : Family) (s : List ℕ) (at stop : ℕ) (c : Count) (count : c ≡ countAt F s at stop) (n next : ℕ) (said : c ≡ Is n next) where
-  pub count_at : CountAt at stop n next
-  count_at = subst (Counted at stop) (sym count ∙ said) (counted F s at stop)
+module _ (F : Family) (s : List ℕ) (at stop : ℕ) (c : Count) (count : c ≡ count_at F s at stop) (n next : ℕ) (said : c ≡ Is n next) where
+  pub count_at_lem : CountAt at stop n next
+  count_at_lem = subst (Counted at stop) (sym count ∙ said) (counted F s at stop)
 
-  pub count-within : next ≤ stop
-  count-within = count_at.within
+  pub count_within : next ≤ stop
+  count_within = count_at.within
 
   pub count-few : n ≤ limit
   count-few = count_at.few
 
 -- ---- h is what stands at `at`
 
-module _ (s : List ℕ) (at stop : ℕ) (h : Head) (head : h ≡ headAt s at stop) where
-  stood-as : (g : Head) → h ≡ g → Stood s at stop g
-  stood-as g e = subst (Stood s at stop) (sym head ∙ e) (head-stood s at stop)
+module _ (s : List ℕ) (at stop : ℕ) (h : Head) (head : h ≡ head_at s at stop) where
+  stood_as : (g : Head) → h ≡ g → Stood s at stop g
+  stood_as g e = subst (Stood s at stop) (sym head ∙ e) (head_stood s at stop)
 
-  pub refuse-place : (e : Refusal) (place : ℕ) → h ≡ Refuse e place → place ≡ at
-  refuse-place e place q = stood-as (Refuse e place) q
+  pub refuse_place : (e : Refusal) (place : ℕ) → h ≡ Refuse e place → place ≡ at
+  refuse_place e place q = stood_as (Refuse e place) q
 
   module _ (c : Content) (next : ℕ) (leaf : h ≡ Leaf c next) where
-    pub leaf-at : LeafAt s at stop c next
-    leaf-at = stood-as (Leaf c next) leaf
+    pub leaf_at : LeafAt s at stop c next
+    leaf_at = stood_as (Leaf c next) leaf
 
     pub leaf-after : at < next
-    leaf-after = leaf-at.after
+    leaf-after = leaf_at.after
 
-    pub leaf-within : next ≤ stop
-    leaf-within = leaf-at.within
+    pub leaf_within : next ≤ stop
+    leaf_within = leaf_at.within
 
-    content-as : (d : Content) → c ≡ d → ContentAt s at next d
-    content-as d e = subst (ContentAt s at next) e leaf-at.content
+    content_as : (d : Content) → c ≡ d → ContentAt s at next d
+    content_as d e = subst (ContentAt s at next) e leaf_at.content
 
-    pub constant-at : (kind : ℕ) → c ≡ holds.Constant kind → ConstantAt at next kind
-    constant-at kind e = content-as (holds.Constant kind) e
+    pub constant_at : (kind : ℕ) → c ≡ holds.Constant kind → ConstantAt at next kind
+    constant_at kind e = content_as (holds.Constant kind) e
 
     pub small_at : (marker : ℕ) → c ≡ holds.Small marker → SmallAt at next marker
-    small_at marker e = content-as (holds.Small marker) e
+    small_at marker e = content_as (holds.Small marker) e
 
-    pub char-at : (codepoint : ℕ) → c ≡ holds.Char codepoint → CharAt at next codepoint
-    char-at codepoint e = content-as (holds.Char codepoint) e
+    pub char_at : (codepoint : ℕ) → c ≡ holds.Char codepoint → CharAt at next codepoint
+    char_at codepoint e = content_as (holds.Char codepoint) e
 
     module _ (sign : Bool) (place size : ℕ) (content : c ≡ holds.Integer sign place size) where
-      pub integer-at : IntegerAt at next place size
-      integer-at = content-as (holds.Integer sign place size) content
+      pub integer_at : IntegerAt at next place size
+      integer_at = content_as (holds.Integer sign place size) content
 
       pub integer-some : 1 ≤ size
-      integer-some = integer-at.some
+      integer-some = integer_at.some
 
       pub integer-few : size ≤ 16
-      integer-few = integer-at.few
+      integer-few = integer_at.few
 
       pub integer-ends : place + size ≡ next
-      integer-ends = integer-at.ends
+      integer-ends = integer_at.ends
 
-      pub integer-within : place + size ≤ stop
-      integer-within = omega (arith, integer-ends, leaf-within)
+      pub integer_within : place + size ≤ stop
+      integer_within = omega (arith, integer-ends, leaf_within)
 
     module _ (kind place size : ℕ) (content : c ≡ holds.Span kind place size) where
-      pub span-at : SpanAt s at next kind place size
-      span-at = content-as (holds.Span kind place size) content
+      pub span_at : SpanAt s at next kind place size
+      span_at = content_as (holds.Span kind place size) content
 
       pub span-ends : place + size ≡ next
-      span-ends = span-at.ends
+      span-ends = span_at.ends
 
-      pub span-within : place + size ≤ stop
-      span-within = omega (arith, span-ends, leaf-within)
+      pub span_within : place + size ≤ stop
+      span_within = omega (arith, span-ends, leaf_within)
 
   module _ (x : Holder) (n next : ℕ) (hold : h ≡ Hold x n next) where
     pub hold_at : CountAt at stop n next
-    hold_at = stood-as (Hold x n next) hold
+    hold_at = stood_as (Hold x n next) hold
 
     pub hold-after : at < next
     hold-after = hold_at.after
 
-    pub hold-within : next ≤ stop
-    hold-within = hold_at.within
+    pub hold_within : next ≤ stop
+    hold_within = hold_at.within
 
     pub hold-few : n ≤ limit
     hold-few = hold_at.few
 
   module _ (n next : ℕ) (refer : h ≡ Refer n next) where
-    pub refer-at : CountAt at stop n next
-    refer-at = stood-as (Refer n next) refer
+    pub refer_at : CountAt at stop n next
+    refer_at = stood_as (Refer n next) refer
 
-    pub refer-within : next ≤ stop
-    refer-within = refer-at.within
+    pub refer_within : next ≤ stop
+    refer_within = refer_at.within
 
     pub refer-few : n ≤ limit
-    refer-few = refer-at.few
+    refer-few = refer_at.few
 
   module _ (n next : ℕ) (declare : h ≡ Declare n next) where
-    pub declare-at : DeclareAt at stop n next
-    declare-at = stood-as (Declare n next) declare
+    pub declare_at : DeclareAt at stop n next
+    declare_at = stood_as (Declare n next) declare
 
     pub declare-after : at < next
-    declare-after = declare-at.after
+    declare-after = declare_at.after
 
-    pub declare-within : next ≤ stop
-    declare-within = declare-at.within
+    pub declare_within : next ≤ stop
+    declare_within = declare_at.within
 
     pub declare-few : n ≤ limit
-    declare-few = declare-at.few
+    declare-few = declare_at.few
 
     pub declare-some : 1 ≤ n
-    declare-some = declare-at.some
+    declare-some = declare_at.some
 
   module _ (place size : ℕ) (foreign : h ≡ Foreign place size) where
-    pub foreign-at : ForeignAt at stop place size
-    foreign-at = stood-as (Foreign place size) foreign
+    pub foreign_at : ForeignAt at stop place size
+    foreign_at = stood_as (Foreign place size) foreign
 
     pub foreign-after : at < place
-    foreign-after = foreign-at.after
+    foreign-after = foreign_at.after
 
-    pub foreign-within : place + size ≤ stop
-    foreign-within = foreign-at.within
+    pub foreign_within : place + size ≤ stop
+    foreign_within = foreign_at.within
 
 -- x is the key at `at`
 module _ (s : List ℕ) (at stop : ℕ) (x : Spelling) (key : x ≡ key_at s at stop) (place size : ℕ) (spelt : x ≡ At place size) where
   pub key-at : SpeltAt s at stop place size
-  key-at = subst (Spelled s at stop) (sym key ∙ spelt) (key-spelled s at stop)
+  key-at = subst (Spelled s at stop) (sym key ∙ spelt) (key_spelled s at stop)
 
-  pub key-after : at < place
-  key-after = key-at.begins
+  pub key_after : at < place
+  key_after = key-at.begins
 
-  pub key-within : place + size ≤ stop
-  key-within = key-at.within
+  pub key_within : place + size ≤ stop
+  key_within = key-at.within

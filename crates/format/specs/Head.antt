@@ -3,12 +3,12 @@ use Rattle.std.specs.Prelude.{ℕ, ◌+◌, ◌-◌, Bool, true, false, not, con
 use Rattle.wide.specs.Number.{number}
 use Rattle.wide.specs.Body.{size_at}
 use Rattle.wide.specs.Family.{Family, Coded, is, short, other, coded}
-use Rattle.wide.specs.Members.{textLength, binaryLength, arrayCount, recordCount, mapCount, keyLength, referenceNumber, declarationCount, foreignLength}
+use Rattle.wide.specs.Members.{text_length, binary_length, array_count, record_count, map_count, key_length, reference_number, declaration_count, foreign_length}
 use Rattle.text.specs.declared.answer.Text.{Text}
 use Rattle.text.specs.declared.answer.Text.TheVariants.{WellFormed, IllFormed}
 use Rattle.text.specs.Check.{text_of}
 use Rattle.rows.specs.Table.{limit}
-use Rattle.rows.specs.Kinds.{kindFloat, kindText, kindBinary}
+use Rattle.rows.specs.Kinds.{kind_float, kind_text, kind_binary}
 use Rattle.format.specs.declared.refusal.Refusal.TheVariants as why
 use Rattle.format.specs.declared.head.Count.{Count}
 use Rattle.format.specs.declared.head.Count.TheVariants.{Is, Not}
@@ -23,10 +23,10 @@ use Rattle.format.specs.declared.head.Head.TheVariants.{Leaf, Hold, Refer, Decla
 
 -- "A value position is one of": what its first byte begins
 pub data Marker : Type 0 where
-  constant float text array entries map binary special nothing signedBody unsignedBody small char reference : Marker
+  constant float text array entries map binary special nothing signed_body unsigned_body small char reference : Marker
 
-unfoldable pub markerOf : ℕ → Marker
-markerOf b =
+unfoldable pub marker_of : ℕ → Marker
+marker_of b =
     cond (ltb b 0x03) constant  -- "`00` false, `01` true, `02` none"
     (cond (ltb b 0x08) float  -- "`03`..`07`: float bodies"
     (cond (ltb b 0x09) text  -- "`08` and a length: text"
@@ -36,8 +36,8 @@ markerOf b =
     (cond (ltb b 0x0d) binary  -- "`0c` and a length: binary"
     (cond (ltb b 0x0e) special  -- "`0d 0d`": a declaration, "`0d 00`": a foreign document
     (cond (ltb b 0x10) nothing  -- "3 marker: `0e`, `0f`"
-    (cond (ltb b 0x18) signedBody  -- "`10`..`17`: signed bodies"
-    (cond (ltb b 0x20) unsignedBody  -- "`18`..`1f`: unsigned"
+    (cond (ltb b 0x18) signed_body  -- "`10`..`17`: signed bodies"
+    (cond (ltb b 0x20) unsigned_body  -- "`18`..`1f`: unsigned"
     (cond (ltb b 0x80) small  -- "`20`..`3f`: -31..0. `40`..`7f`: 1..64"
     (cond (ltb b 0xa0) text  -- "`80`..`9f`: text of 1..32 bytes"
     (cond (ltb b 0xb0) array  -- "`a0`..`af`: array of 1..16"
@@ -57,8 +57,8 @@ count_of at short = Not why.Short
 count_of at other = Not why.Marker
 
 -- the number of a family at `at`
-unfoldable pub countAt : Family → List ℕ → ℕ → ℕ → Count
-countAt F s at stop = count_of at (coded F (between s at stop))
+unfoldable pub count_at : Family → List ℕ → ℕ → ℕ → Count
+count_at F s at stop = count_of at (coded F (between s at stop))
 
 -- a leaf whose body has size bytes from place on, or "2 short: bytes end inside an item"
 abbrev pub bodied : ℕ → Content → ℕ → ℕ → ℕ → Head
@@ -73,88 +73,88 @@ abbrev pub spelling : List ℕ → ℕ → ℕ → ℕ → Spelling
 spelling s place size stop = cond (leb size (stop - place)) (spelled place size (text_of (take size (drop place s)))) (No why.Short)
 
 -- text behind its length: a text's, or a key's
-abbrev pub spellingOf : List ℕ → ℕ → Count → Spelling
-spellingOf s stop (Is n place) = spelling s place n stop
-spellingOf s stop (Not e) = No e
+abbrev pub spelling_of : List ℕ → ℕ → Count → Spelling
+spelling_of s stop (Is n place) = spelling s place n stop
+spelling_of s stop (Not e) = No e
 
 -- "0..0x10FFFF without D800..DFFF"
 abbrev pub codepoint : ℕ → Bool
 codepoint c = leb c 0x10FFFF && not (leb 0xD800 c && leb c 0xDFFF)
 
-abbrev pub charBody : ℕ → ℕ → Head
-charBody at c = cond (codepoint c) (Leaf (holds.Char c) (at + 4)) (Refuse why.Char at)
+abbrev pub char_body : ℕ → ℕ → Head
+char_body at c = cond (codepoint c) (Leaf (holds.Char c) (at + 4)) (Refuse why.Char at)
 
-abbrev pub charHead : List ℕ → ℕ → ℕ → Head
-charHead s at stop = cond (leb 3 (stop - (at + 1))) (charBody at (number (take 3 (drop (at + 1) s)))) (Refuse why.Short at)
+abbrev pub char_head : List ℕ → ℕ → ℕ → Head
+char_head s at stop = cond (leb 3 (stop - (at + 1))) (char_body at (number (take 3 (drop (at + 1) s)))) (Refuse why.Short at)
 
 -- "`03`..`07`: float bodies of 2, 4, 8, 16, 32 bytes"
-abbrev pub floatSizes : List ℕ
-floatSizes = 2 ∷ 4 ∷ 8 ∷ 16 ∷ 32 ∷ []
+abbrev pub float_sizes : List ℕ
+float_sizes = 2 ∷ 4 ∷ 8 ∷ 16 ∷ 32 ∷ []
 
-abbrev pub floatSize : ℕ → ℕ
-floatSize b = get_or floatSizes (b - 0x03) 0
+abbrev pub float_size : ℕ → ℕ
+float_size b = get_or float_sizes (b - 0x03) 0
 
 -- "`10`..`17`: signed bodies of 1, 2, 3, 4, 6, 8, 12, 16 bytes; `18`..`1f`: unsigned, same sizes"
-abbrev pub integerHead : ℕ → ℕ → ℕ → Bool → Head
-integerHead at stop rank signed = bodied at (holds.Integer signed (at + 1) (size_at rank)) (at + 1) (size_at rank) stop
+abbrev pub integer_head : ℕ → ℕ → ℕ → Bool → Head
+integer_head at stop rank signed = bodied at (holds.Integer signed (at + 1) (size_at rank)) (at + 1) (size_at rank) stop
 
 -- what a length, count or number is followed by, or its refusal
-abbrev pub withCount : ℕ → Count → (ℕ → ℕ → Head) → Head
-withCount at (Is n next) rest = rest n next
-withCount at (Not e) rest = Refuse e at
+abbrev pub with_count : ℕ → Count → (ℕ → ℕ → Head) → Head
+with_count at (Is n next) rest = rest n next
+with_count at (Not e) rest = Refuse e at
 
-abbrev pub textHead : ℕ → Spelling → Head
-textHead at (At place size) = Leaf (holds.Span kindText place size) (place + size)
-textHead at (No e) = Refuse e at
+abbrev pub text_head : ℕ → Spelling → Head
+text_head at (At place size) = Leaf (holds.Span kind_text place size) (place + size)
+text_head at (No e) = Refuse e at
 
-abbrev pub binaryHead : ℕ → ℕ → Count → Head
-binaryHead at stop c = withCount at c (λ n place. bodied at (holds.Span kindBinary place n) place n stop)
+abbrev pub binary_head : ℕ → ℕ → Count → Head
+binary_head at stop c = with_count at c (λ n place. bodied at (holds.Span kind_binary place n) place n stop)
 
-abbrev pub holderHead : Holder → ℕ → Count → Head
-holderHead h at c = withCount at c (λ n next. Hold h n next)
+abbrev pub holder_head : Holder → ℕ → Count → Head
+holder_head h at c = with_count at c (λ n next. Hold h n next)
 
-abbrev pub referHead : ℕ → Count → Head
-referHead at c = withCount at c (λ n next. Refer n next)
+abbrev pub refer_head : ℕ → Count → Head
+refer_head at c = with_count at c (λ n next. Refer n next)
 
 -- "8 empty registry: declaration of 0"
-abbrev pub declareHead : ℕ → Count → Head
-declareHead at c = withCount at c (λ n next. cond (eqb n 0) (Refuse why.Empty at) (Declare n next))
+abbrev pub declare_head : ℕ → Count → Head
+declare_head at c = with_count at c (λ n next. cond (eqb n 0) (Refuse why.Empty at) (Declare n next))
 
 -- "A body running past the bytes around it is a fault of the position that holds it."
-abbrev pub foreignHead : ℕ → ℕ → Count → Head
-foreignHead at stop c = withCount at c (λ n place. cond (leb n (stop - place)) (Foreign place n) (Refuse why.Short at))
+abbrev pub foreign_head : ℕ → ℕ → Count → Head
+foreign_head at stop c = with_count at c (λ n place. cond (leb n (stop - place)) (Foreign place n) (Refuse why.Short at))
 
 -- "`0d` before other than `0d`, `00`" is refused
-abbrev pub secondHead : List ℕ → ℕ → ℕ → ℕ → Head
-secondHead s at stop b =
-    cond (eqb b 0x0d) (declareHead at (countAt declarationCount s at stop))
-    (cond (eqb b 0x00) (foreignHead at stop (countAt foreignLength s at stop))
+abbrev pub second_head : List ℕ → ℕ → ℕ → ℕ → Head
+second_head s at stop b =
+    cond (eqb b 0x0d) (declare_head at (count_at declaration_count s at stop))
+    (cond (eqb b 0x00) (foreign_head at stop (count_at foreign_length s at stop))
     (Refuse why.Marker at))
 
-abbrev pub specialHead : List ℕ → ℕ → ℕ → Head
-specialHead s at stop = cond (ltb (at + 1) stop) (secondHead s at stop (get_or s (at + 1) 0)) (Refuse why.Short at)
+abbrev pub special_head : List ℕ → ℕ → ℕ → Head
+special_head s at stop = cond (ltb (at + 1) stop) (second_head s at stop (get_or s (at + 1) 0)) (Refuse why.Short at)
 
 -- the byte b at `at`, by what it begins
-unfoldable pub headBy : List ℕ → ℕ → ℕ → ℕ → Marker → Head
-headBy s at stop b constant = Leaf (holds.Constant (b + 1)) (at + 1)
-headBy s at stop b small = Leaf (holds.Small b) (at + 1)
-headBy s at stop b signedBody = integerHead at stop (b - 0x10) true
-headBy s at stop b unsignedBody = integerHead at stop (b - 0x18) false
-headBy s at stop b float = bodied at (holds.Span kindFloat (at + 1) (floatSize b)) (at + 1) (floatSize b) stop
-headBy s at stop b text = textHead at (spellingOf s stop (countAt textLength s at stop))
-headBy s at stop b binary = binaryHead at stop (countAt binaryLength s at stop)
-headBy s at stop b char = charHead s at stop
-headBy s at stop b array = holderHead Array at (countAt arrayCount s at stop)
-headBy s at stop b entries = holderHead Record at (countAt recordCount s at stop)
-headBy s at stop b map = holderHead Map at (countAt mapCount s at stop)
-headBy s at stop b reference = referHead at (countAt referenceNumber s at stop)
-headBy s at stop b special = specialHead s at stop
-headBy s at stop b nothing = Refuse why.Marker at
+unfoldable pub head_by : List ℕ → ℕ → ℕ → ℕ → Marker → Head
+head_by s at stop b constant = Leaf (holds.Constant (b + 1)) (at + 1)
+head_by s at stop b small = Leaf (holds.Small b) (at + 1)
+head_by s at stop b signed_body = integer_head at stop (b - 0x10) true
+head_by s at stop b unsigned_body = integer_head at stop (b - 0x18) false
+head_by s at stop b float = bodied at (holds.Span kind_float (at + 1) (float_size b)) (at + 1) (float_size b) stop
+head_by s at stop b text = text_head at (spelling_of s stop (count_at text_length s at stop))
+head_by s at stop b binary = binary_head at stop (count_at binary_length s at stop)
+head_by s at stop b char = char_head s at stop
+head_by s at stop b array = holder_head Array at (count_at array_count s at stop)
+head_by s at stop b entries = holder_head Record at (count_at record_count s at stop)
+head_by s at stop b map = holder_head Map at (count_at map_count s at stop)
+head_by s at stop b reference = refer_head at (count_at reference_number s at stop)
+head_by s at stop b special = special_head s at stop
+head_by s at stop b nothing = Refuse why.Marker at
 
 -- what stands at `at`
-unfoldable pub headAt : List ℕ → ℕ → ℕ → Head
-headAt s at stop = cond (ltb at stop) (headBy s at stop (get_or s at 0) (markerOf (get_or s at 0))) (Refuse why.Short at)
+unfoldable pub head_at : List ℕ → ℕ → ℕ → Head
+head_at s at stop = cond (ltb at stop) (head_by s at stop (get_or s at 0) (marker_of (get_or s at 0))) (Refuse why.Short at)
 
 -- "A record key is a length and text, with no marker"
 unfoldable pub key_at : List ℕ → ℕ → ℕ → Spelling
-key_at s at stop = spellingOf s stop (countAt keyLength s at stop)
+key_at s at stop = spelling_of s stop (count_at key_length s at stop)

@@ -4,13 +4,13 @@ use Rattle.rows.specs.Table.{Own, row_of, aimed, words_of}
 use Rattle.format.specs.declared.head.Children.{Children}
 use Rattle.format.specs.declared.head.Children.TheVariants.{Plain, Keyed, Entries}
 use Rattle.format.specs.Tree.{Tree, leaf, refer, hold, declare, foreign, damaged, Trees, none, more, size, sizes}
-use Rattle.format.specs.Value.{inForeign}
+use Rattle.format.specs.Value.{in_foreign}
 
 -- whether each child is one more entry in force for those behind it
-abbrev pub isEntry : Children → Bool
-isEntry Plain = false
-isEntry Keyed = false
-isEntry Entries = true
+abbrev pub is_entry : Children → Bool
+is_entry Plain = false
+is_entry Keyed = false
+is_entry Entries = true
 
 -- the rows of the entries in force behind a tree at `row`: among the entries of a declaration that tree is one more
 abbrev pub grown : Bool → List ℕ → ℕ → List ℕ
@@ -23,7 +23,7 @@ entries (more t ts) row registry = entries ts (row + size t) (grown true registr
 
 -- the rows of the entries in force at the start of a foreign body, of those around it
 abbrev pub in_body : List ℕ → List ℕ
-in_body registry = take (inForeign (length registry)) registry
+in_body registry = take (in_foreign (length registry)) registry
 
 -- "Rows stand in document order, a holder before its children": the words of a tree whose own row is `row`, where `registry` has the rows of
 -- the entries in force

@@ -1,6 +1,6 @@
 -- The paper's starred cases that speak of reading, the slips that it names, and three cases of request §2. Assumes nothing: these are definitions.
 use Rattle.std.specs.Prelude.{ℕ, zero, suc, ◌*◌, List, [], ◌∷◌, ◌++◌, replicate}
-use Rattle.rows.specs.Table.{wordsPerRow}
+use Rattle.rows.specs.Table.{words_per_row}
 use Rattle.format.specs.declared.refusal.Refusal.TheVariants as why
 use Rattle.format.specs.declared.answer.Answer.{Answer}
 use Rattle.format.specs.declared.answer.Answer.TheVariants.{Accepted, Refused, Full}
@@ -14,13 +14,13 @@ pub record Case : Type 0 where
 
 -- a table of that many rows, and two words more, none of them 0
 abbrev pub dirty : ℕ → List ℕ
-dirty rows = replicate 2 7 ++ replicate (wordsPerRow * rows) 9
+dirty rows = replicate 2 7 ++ replicate (words_per_row * rows) 9
 
-abbrev readsInto : ℕ → List ℕ → ℕ → List ℕ → Case
-readsInto lent bytes n rows = record { bytes = bytes; table = dirty lent; says = Accepted n; rows = rows }
+abbrev reads_into : ℕ → List ℕ → ℕ → List ℕ → Case
+reads_into lent bytes n rows = record { bytes = bytes; table = dirty lent; says = Accepted n; rows = rows }
 
 abbrev reads : List ℕ → ℕ → List ℕ → Case
-reads bytes n rows = readsInto 8 bytes n rows
+reads bytes n rows = reads_into 8 bytes n rows
 
 abbrev refused : List ℕ → Answer → Case
 refused bytes answer = record { bytes = bytes; table = dirty 8; says = answer; rows = [] }
@@ -37,8 +37,8 @@ abbrev times : ℕ → List ℕ → List ℕ
 times zero words = []
 times (suc n) words = words ++ times n words
 
-abbrev minusOne : ℕ
-minusOne = 0xffffffff
+abbrev minus_one : ℕ
+minus_one = 0xffffffff
 
 unfoldable pub starred : List Case
 starred =
@@ -47,14 +47,14 @@ starred =
     ∷ reads (0x02 ∷ []) 1 (row 3 1 0 0 0 0)
     ∷ refused (0x02 ∷ 0x02 ∷ []) (Refused why.Extra 1)
     -- "`20` is -31, `3f` is 0, `40` is 1, `7f` is 64. `18 40` is kind 4 ..; `18 41` is kind 6, 65."
-    ∷ reads (0x20 ∷ []) 1 (row 4 1 0xffffffe1 minusOne minusOne minusOne)
+    ∷ reads (0x20 ∷ []) 1 (row 4 1 0xffffffe1 minus_one minus_one minus_one)
     ∷ reads (0x3f ∷ []) 1 (row 4 1 0 0 0 0)
     ∷ reads (0x40 ∷ []) 1 (row 4 1 1 0 0 0)
     ∷ reads (0x7f ∷ []) 1 (row 4 1 64 0 0 0)
     ∷ reads (0x18 ∷ 0x40 ∷ []) 1 (row 4 1 64 0 0 0)
     ∷ reads (0x18 ∷ 0x41 ∷ []) 1 (row 6 1 65 0 0 0)
     -- "-32: `10 e0`."
-    ∷ reads (0x10 ∷ 0xe0 ∷ []) 1 (row 5 1 0xffffffe0 minusOne minusOne minusOne)
+    ∷ reads (0x10 ∷ 0xe0 ∷ []) 1 (row 5 1 0xffffffe0 minus_one minus_one minus_one)
     -- "`0d 0d 01 80 61 a2 c1 c1 c1`: six rows, text at place 4. With five lent: 11, six needed."
     ∷ reads (0x0d ∷ 0x0d ∷ 0x01 ∷ 0x80 ∷ 0x61 ∷ 0xa2 ∷ 0xc1 ∷ 0xc1 ∷ 0xc1 ∷ []) 6
     (row 15 6 1 0 0 0 ++ row 8 2 4 1 0 0 ++ row 9 6 3 0 0 0 ++ row 14 4 0 1 0 0 ++ row 14 5 0 1 0 0 ++ row 14 6 0 1 0 0)
@@ -87,7 +87,7 @@ slips =
     ∷ refused (0x0d ∷ 0x0d ∷ 0x02 ∷ 0x01 ∷ 0x02 ∷ 0x0d ∷ 0x0d ∷ 0x01 ∷ 0x00 ∷ 0xc2 ∷ []) (Refused why.NoEntry 9)
     -- "at one position 9, then 2": 33 arrays of one with nothing behind them, and behind 32 an empty body one level too deep
     ∷ refused (replicate 33 0xa0) (Refused why.Deep 33)
-    ∷ readsInto 33 (replicate 32 0xa0 ++ (0x0d ∷ 0x00 ∷ 0x00 ∷ [])) 33 (times 32 (row 9 33 1 0 0 0) ++ row 16 33 35 0 9 0)
+    ∷ reads_into 33 (replicate 32 0xa0 ++ (0x0d ∷ 0x00 ∷ 0x00 ∷ [])) 33 (times 32 (row 9 33 1 0 0 0) ++ row 16 33 35 0 9 0)
     -- "then 2, 3, 4, 2 for the body": a length cut short, one above the limit, one above what is there
     ∷ refused (0x08 ∷ 0xfb ∷ 0xff ∷ []) (Refused why.Short 0)
     ∷ refused (0x08 ∷ 0xfb ∷ 0x00 ∷ 0x00 ∷ 0x00 ∷ 0x01 ∷ []) (Refused why.Huge 0)

@@ -1,6 +1,6 @@
 // What a holder says of its children, and a foreign document of its body.
 ghost use Rattle.std.specs.Prelude.{◌≡◌, ◌<◌};
-ghost use Rattle.format.specs.Value.{kind_of, childCount, childrenOf, is_key, inForce, inForeign};
+ghost use Rattle.format.specs.Value.{kind_of, child_count, children_of, is_key, in_force, in_foreign};
 
 use crate::head::{Children, Holder};
 use rows::Row;
@@ -20,7 +20,7 @@ impl Holder {
     // How many children stand for n elements or entries.
     pub fn children(self, n: usize) -> usize
         requires { n < 4294967296 }
-        ensures { result ≡ childCount self n }
+        ensures { result ≡ child_count self n }
     {
         match self {
             Holder::Array => n,
@@ -31,7 +31,7 @@ impl Holder {
 
     // How they are read.
     pub fn reading(self) -> Children
-        ensures { result ≡ childrenOf self }
+        ensures { result ≡ children_of self }
     {
         match self {
             Holder::Array => Children::Plain,
@@ -55,7 +55,7 @@ impl Children {
 
     // How many entries are in force for it, of the `around` around its holder.
     pub fn in_force(self, around: usize, i: usize) -> usize
-        ensures { result ≡ inForce self around i }
+        ensures { result ≡ in_force self around i }
     {
         match self {
             Children::Plain => around,
@@ -67,7 +67,7 @@ impl Children {
 
 // How many entries are in force at the start of a foreign body, of those around it.
 pub fn in_foreign(around: usize) -> usize
-    ensures { result ≡ inForeign around }
+    ensures { result ≡ in_foreign around }
 {
     0
 }

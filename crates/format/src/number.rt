@@ -1,7 +1,7 @@
 // The paper's numbers for refusals and answers.
 ghost use Rattle.std.specs.Prelude.{◌≡◌};
-ghost use Rattle.format.specs.Refusal.{refusalNumber};
-ghost use Rattle.format.specs.Answer.{answerNumber, answerBeside, neededNumber, neededBeside};
+ghost use Rattle.format.specs.Refusal.{refusal_number};
+ghost use Rattle.format.specs.Answer.{answer_number, answer_beside, needed_number, needed_beside};
 
 use crate::answer::Answer;
 use crate::needed::Needed;
@@ -10,7 +10,7 @@ use crate::refusal::Refusal;
 impl Refusal {
     // 2 to 10.
     pub fn number(self) -> u32
-        ensures { result ≡ refusalNumber self }
+        ensures { result ≡ refusal_number self }
     {
         match self {
             Refusal::Short => 2,
@@ -29,7 +29,7 @@ impl Refusal {
 impl Needed {
     // 0, or the refusal's number.
     pub fn number(self) -> u32
-        ensures { result ≡ neededNumber self }
+        ensures { result ≡ needed_number self }
     {
         match self {
             Needed::Rows { rows: _ } => 0,
@@ -40,7 +40,7 @@ impl Needed {
 
     // The number beside it: rows, or a place.
     pub fn beside(self) -> usize
-        ensures { result ≡ neededBeside self }
+        ensures { result ≡ needed_beside self }
     {
         match self {
             Needed::Rows { rows } => rows,
@@ -53,7 +53,7 @@ impl Needed {
 impl Answer {
     // 0, or the refusal's number.
     pub fn number(self) -> u32
-        ensures { result ≡ answerNumber self }
+        ensures { result ≡ answer_number self }
     {
         match self {
             Answer::Accepted { rows: _ } => 0,
@@ -65,7 +65,7 @@ impl Answer {
 
     // The number beside it: rows, a place, or the rows needed.
     pub fn beside(self) -> usize
-        ensures { result ≡ answerBeside self }
+        ensures { result ≡ answer_beside self }
     {
         match self {
             Answer::Accepted { rows } => rows,

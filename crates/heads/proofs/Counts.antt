@@ -11,20 +11,20 @@ use lib.Dec.{leb, eqb}
 use borrow.Author.Tests.{le-leb, lt-leb, lt-ltb, le-ltb, leb-true, leb-false, eq-eqb}
 use Rattle.wide.specs.declared.wide.Wide.{Wide}
 use Rattle.variable.specs.declared.answer.Read.TheVariants as read
-use Rattle.wide.specs.Words.{wideEnd, value_of, wide_of}
-use Rattle.wide.specs.Family.{Run, behind, hasByte, number_of, Coded, is, short, other, longer, unmarked, marked, coded}
-use Rattle.wide.specs.Members.{run, none, unsigned, headed, keyLength}
-use Rattle.variable.specs.Answer.{readAs, read_of}
+use Rattle.wide.specs.Words.{wide_end, value_of, wide_of}
+use Rattle.wide.specs.Family.{Run, behind, has_byte, number_of, Coded, is, short, other, longer, unmarked, marked, coded}
+use Rattle.wide.specs.Members.{run, none, unsigned, headed, key_length}
+use Rattle.variable.specs.Answer.{read_as, read_of}
 use Rattle.wide.proofs.Numbers.{Bytes, bytes-all, bytes_take, bytes_drop}
-use Rattle.wide.proofs.Wides.{value-wide}
+use Rattle.wide.proofs.Wides.{value_wide}
 use Rattle.wide.proofs.Runs.{bytes_whole}
-use Rattle.wide.proofs.Families.{cond_yes, cond_no, Takes, coded-takes, Reads, reads}
-use Rattle.wide.proofs.Sound.{sound-variable}
+use Rattle.wide.proofs.Families.{cond_yes, cond_no, Takes, coded_takes, Reads, reads}
+use Rattle.wide.proofs.Sound.{sound_variable}
 use Rattle.variable.proofs.Variables.{none_before, every_byte}
 use Rattle.rows.specs.Table.{limit}
 use Rattle.format.specs.declared.refusal.Refusal.TheVariants as why
 use Rattle.format.specs.declared.head.Count.TheVariants.{Is, Not}
-use Rattle.format.specs.Head.{between, count_of, countAt}
+use Rattle.format.specs.Head.{between, count_of, count_at}
 
 -- ---- parts of the bytes
 
@@ -41,8 +41,8 @@ part_none s at stop h = let e : stop - at ≡ 0 = omega arith in ap (λ (k : ℕ
 pub part_length : (s : List ℕ) (at stop : ℕ) → at ≤ stop → stop ≤ length s → length (between s at stop) ≡ stop - at
 part_length s at stop l h = length-take-le (stop - at) (drop at s) (omega (arith, length-drop at s))
 
-pub part_bytes : (s : List ℕ) (at stop : ℕ) → ((i : ℕ) → get_or s i 0 < 256) → Bytes (between s at stop)
-part_bytes s at stop h = bytes_take (stop - at) (drop at s) (bytes_drop at s (bytes-all s h))
+pub part_bytes_lem : (s : List ℕ) (at stop : ℕ) → ((i : ℕ) → get_or s i 0 < 256) → Bytes (between s at stop)
+part_bytes_lem s at stop h = bytes_take (stop - at) (drop at s) (bytes_drop at s (bytes-all s h))
 
 -- ---- a number behind the marker
 
@@ -57,25 +57,25 @@ count-longer at short = refl
 count-longer at other = refl
 
 -- one byte of marker
-pub count-behind : (alone : Run) (m : ℕ) (s : List ℕ) (at stop : ℕ) → at < stop → stop ≤ length s → get_or s at 0 ≡ m → hasByte alone m ≡ false
-    → countAt (headed alone (m ∷ [])) s at stop ≡ countAt keyLength s (at + 1) stop
-unfolding countAt coded marked
+pub count-behind : (alone : Run) (m : ℕ) (s : List ℕ) (at stop : ℕ) → at < stop → stop ≤ length s → get_or s at 0 ≡ m → has_byte alone m ≡ false
+    → count_at (headed alone (m ∷ [])) s at stop ≡ count_at key_length s (at + 1) stop
+unfolding count_at coded marked
 count-behind alone m s at stop l h e a =
     let rest : List ℕ = between s (at + 1) stop in
     ap (λ (p : List ℕ). count_of at (coded (headed alone (m ∷ [])) p)) (part-cons s at stop l h ∙ ap (λ (b : ℕ). b ∷ rest) e)
-    ∙ ap (count_of at) (cond_no (hasByte alone m) _ _ a ∙ cond_yes (eqb m m) _ other (eq-eqb m m refl) ∙ ap longer (headed-unmarked alone (m ∷ []) rest ∙ sym (none_before false rest)))
+    ∙ ap (count_of at) (cond_no (has_byte alone m) _ _ a ∙ cond_yes (eqb m m) _ other (eq-eqb m m refl) ∙ ap longer (headed-unmarked alone (m ∷ []) rest ∙ sym (none_before false rest)))
     ∙ count-longer at (coded unsigned rest)
 
 -- two bytes of marker
-pub count-behind-two : (m n : ℕ) (s : List ℕ) (at stop : ℕ) → at + 1 < stop → stop ≤ length s → get_or s at 0 ≡ m → get_or s (at + 1) 0 ≡ n
-    → countAt (headed none (m ∷ n ∷ [])) s at stop ≡ countAt keyLength s (at + 1 + 1) stop
-unfolding countAt coded marked
-count-behind-two m n s at stop l h e f =
+pub count-behind_two : (m n : ℕ) (s : List ℕ) (at stop : ℕ) → at + 1 < stop → stop ≤ length s → get_or s at 0 ≡ m → get_or s (at + 1) 0 ≡ n
+    → count_at (headed none (m ∷ n ∷ [])) s at stop ≡ count_at key_length s (at + 1 + 1) stop
+unfolding count_at coded marked
+count-behind_two m n s at stop l h e f =
     let rest : List ℕ = between s (at + 1 + 1) stop in
     let q : between s at stop ≡ m ∷ n ∷ rest =
     part-cons s at stop (omega arith) h ∙ ap₂ (λ (b : ℕ) (p : List ℕ). b ∷ p) e (part-cons s (at + 1) stop l h ∙ ap (λ (b : ℕ). b ∷ rest) f) in
     ap (λ (p : List ℕ). count_of at (coded (headed none (m ∷ n ∷ [])) p)) q
-    ∙ ap (count_of at) (cond_no (hasByte none m) _ _ (le-ltb (behind 256 0 m) 0 (omega arith))
+    ∙ ap (count_of at) (cond_no (has_byte none m) _ _ (le-ltb (behind 256 0 m) 0 (omega arith))
     ∙ cond_yes (eqb m m) _ other (eq-eqb m m refl)
     ∙ ap longer (cond_yes (eqb n n) _ other (eq-eqb n n refl) ∙ ap longer (headed-unmarked none (m ∷ n ∷ []) rest ∙ sym (none_before false rest))))
     ∙ count-longer at (longer (coded unsigned rest))
@@ -83,40 +83,40 @@ count-behind-two m n s at stop l h e f =
 
 -- ---- a number in the marker itself
 
-alone-distance : (low b : ℕ) → low ≤ b → b < 256 → behind 256 low b ≡ b - low
+alone_distance : (low b : ℕ) → low ≤ b → b < 256 → behind 256 low b ≡ b - low
 unfolding behind
-alone-distance low b l h = omega arith
+alone_distance low b l h = omega arith
 
 pub count-alone : (low count from : ℕ) (ms s : List ℕ) (at stop : ℕ) → at < stop → stop ≤ length s → low ≤ get_or s at 0 → get_or s at 0 < low + count
     → low + count ≤ 256 → from + count ≤ 256
-    → countAt (headed (run low count from) ms) s at stop ≡ Is (from + (get_or s at 0 - low)) (at + 1)
-unfolding countAt coded
+    → count_at (headed (run low count from) ms) s at stop ≡ Is (from + (get_or s at 0 - low)) (at + 1)
+unfolding count_at coded
 count-alone low count from ms s at stop l h a b c d =
     let x : ℕ = get_or s at 0 in
-    let t : behind 256 low x ≡ x - low = alone-distance low x a (omega arith) in
-    let y : hasByte (run low count from) x ≡ true = lt-ltb (behind 256 low x) count (omega arith) in
-    let v : number_of (run low count from) x ≡ from + (x - low) = ap (λ (o : ℕ). (from + o) % wideEnd) t ∙ mod-eq_of_lt (omega (arith, bytes_whole)) in
+    let t : behind 256 low x ≡ x - low = alone_distance low x a (omega arith) in
+    let y : has_byte (run low count from) x ≡ true = lt-ltb (behind 256 low x) count (omega arith) in
+    let v : number_of (run low count from) x ≡ from + (x - low) = ap (λ (o : ℕ). (from + o) % wide_end) t ∙ mod-eq_of_lt (omega (arith, bytes_whole)) in
     let small : from + (x - low) ≤ limit = omega arith in
     ap (λ (p : List ℕ). count_of at (coded (headed (run low count from) ms) p)) (part-cons s at stop l h)
-    ∙ ap (count_of at) (cond_yes (hasByte (run low count from) x) _ _ y ∙ ap (λ (n : ℕ). is n 1) v)
+    ∙ ap (count_of at) (cond_yes (has_byte (run low count from) x) _ _ y ∙ ap (λ (n : ℕ). is n 1) v)
     ∙ cond_yes (leb (from + (x - low)) limit) _ _ (le-leb (from + (x - low)) limit small)
 
 -- ---- the variable integer of a length
 
-pub length-missing : (s : List ℕ) (at stop : ℕ) → stop ≤ at → Not why.Short ≡ countAt keyLength s at stop
-unfolding countAt coded
-length-missing s at stop h = sym (ap (λ (p : List ℕ). count_of at (coded unsigned p)) (part_none s at stop h))
+pub length_missing : (s : List ℕ) (at stop : ℕ) → stop ≤ at → Not why.Short ≡ count_at key_length s at stop
+unfolding count_at coded
+length_missing s at stop h = sym (ap (λ (p : List ℕ). count_of at (coded unsigned p)) (part_none s at stop h))
 
-pub length-one : (s : List ℕ) (at stop b : ℕ) → at < stop → stop ≤ length s → b ≡ get_or s at 0 → b < 248 → Is b (at + 1) ≡ countAt keyLength s at stop
-unfolding countAt unmarked
+pub length-one : (s : List ℕ) (at stop b : ℕ) → at < stop → stop ≤ length s → b ≡ get_or s at 0 → b < 248 → Is b (at + 1) ≡ count_at key_length s at stop
+unfolding count_at unmarked
 length-one s at stop b l h e g =
     let rest : List ℕ = between s (at + 1) stop in
-    let f : behind 256 0 b ≡ b - 0 = alone-distance 0 b (omega arith) (omega arith) in
-    let t : hasByte unsigned.direct b ≡ true = lt-ltb (behind 256 0 b) 248 (omega arith) in
+    let f : behind 256 0 b ≡ b - 0 = alone_distance 0 b (omega arith) (omega arith) in
+    let t : has_byte unsigned.direct b ≡ true = lt-ltb (behind 256 0 b) 248 (omega arith) in
     let z : 0 + (b - 0) ≡ b = omega arith in
-    let v : number_of unsigned.direct b ≡ b = ap (λ (o : ℕ). (0 + o) % wideEnd) f ∙ ap (λ (o : ℕ). o % wideEnd) z ∙ mod-eq_of_lt (omega (arith, bytes_whole)) in
+    let v : number_of unsigned.direct b ≡ b = ap (λ (o : ℕ). (0 + o) % wide_end) f ∙ ap (λ (o : ℕ). o % wide_end) z ∙ mod-eq_of_lt (omega (arith, bytes_whole)) in
     sym (ap (λ (p : List ℕ). count_of at (coded unsigned p)) (part-cons s at stop l h ∙ ap (λ (x : ℕ). x ∷ rest) (sym e))
-    ∙ ap (count_of at) (none_before false (b ∷ rest) ∙ cond_yes (hasByte unsigned.direct b) _ _ t ∙ ap (λ (n : ℕ). is n 1) v)
+    ∙ ap (count_of at) (none_before false (b ∷ rest) ∙ cond_yes (has_byte unsigned.direct b) _ _ t ∙ ap (λ (n : ℕ). is n 1) v)
     ∙ cond_yes (leb b limit) _ _ (le-leb b limit (omega arith)))
 
 module _ (s : List ℕ) (at stop : ℕ) (bytes : (i : ℕ) → get_or s i 0 < 256) where
@@ -134,23 +134,23 @@ module _ (s : List ℕ) (at stop : ℕ) (bytes : (i : ℕ) → get_or s i 0 < 25
   unfolding read_of
   got w used e = of (coded unsigned here) refl (sym e)
     where
-      of : (c : Coded) → coded unsigned here ≡ c → readAs c ≡ read.Got w used → Got w used
+      of : (c : Coded) → coded unsigned here ≡ c → read_as c ≡ read.Got w used → Got w used
       of (is n u) q g =
-          let r : Reads unsigned here n u = reads unsigned (sound-variable false) here n u (part_bytes s at stop bytes) q in
+          let r : Reads unsigned here n u = reads unsigned (sound_variable false) here n u (part_bytes_lem s at stop bytes) q in
           let v : wide_of n ≡ w = cc in
           let p : u ≡ used = cc in
-          let t : Takes 1 (length here) (is n u) = subst (Takes 1 (length here)) q (coded-takes unsigned here) in
-          record { value = n; stands = q ∙ ap (is n) p; same = ap value_of (sym v) ∙ value-wide n r.small; there = omega (arith, t.1) }
+          let t : Takes 1 (length here) (is n u) = subst (Takes 1 (length here)) q (coded_takes unsigned here) in
+          record { value = n; stands = q ∙ ap (is n) p; same = ap value_of (sym v) ∙ value_wide n r.small; there = omega (arith, t.1) }
       of short q g = absurd (let z : ◌≡◌ {A = ℕ} 0 1 = cc in omega arith)
       of other q g = absurd (let z : ◌≡◌ {A = ℕ} 0 1 = cc in omega arith)
 
-  pub got-there : (w : Wide) (used : ℕ) → read.Got w used ≡ read_of unsigned here → at ≤ stop → stop ≤ length s → at + used ≤ stop
-  got-there w used e l h = omega (arith, (got w used e).there, part_length s at stop l h)
+  pub got_there : (w : Wide) (used : ℕ) → read.Got w used ≡ read_of unsigned here → at ≤ stop → stop ≤ length s → at + used ≤ stop
+  got_there w used e l h = omega (arith, (got w used e).there, part_length s at stop l h)
 
-  pub got-is : (w : Wide) (used v : ℕ) (t : Bool) → read.Got w used ≡ read_of unsigned here → t ≡ leb (value_of w) limit → t ≡ true → v ≡ w.w0
-      → Is v (at + used) ≡ countAt keyLength s at stop
-  unfolding countAt
-  got-is w used v t e a b c =
+  pub got_is : (w : Wide) (used v : ℕ) (t : Bool) → read.Got w used ≡ read_of unsigned here → t ≡ leb (value_of w) limit → t ≡ true → v ≡ w.w0
+      → Is v (at + used) ≡ count_at key_length s at stop
+  unfolding count_at
+  got_is w used v t e a b c =
       let g : Got w used = got w used e in
       let l : value_of w ≤ limit = leb-true (value_of w) limit (sym a ∙ b) in
       let m : v ≡ g.value = c ∙ low_of w.w0 w.w1 w.w2 w.w3 l ∙ g.same in
@@ -161,20 +161,20 @@ module _ (s : List ℕ) (at stop : ℕ) (bytes : (i : ℕ) → get_or s i 0 < 25
       low_of : (a b c d : ℕ) → a + 2 ^ 32 * (b + 2 ^ 32 * (c + 2 ^ 32 * d)) ≤ limit → a ≡ a + 2 ^ 32 * (b + 2 ^ 32 * (c + 2 ^ 32 * d))
       low_of a b c d h = omega arith
 
-  pub got-huge : (w : Wide) (used : ℕ) (t : Bool) → read.Got w used ≡ read_of unsigned here → t ≡ leb (value_of w) limit → t ≡ false
-      → Not why.Huge ≡ countAt keyLength s at stop
-  unfolding countAt
-  got-huge w used t e a b =
+  pub got_huge : (w : Wide) (used : ℕ) (t : Bool) → read.Got w used ≡ read_of unsigned here → t ≡ leb (value_of w) limit → t ≡ false
+      → Not why.Huge ≡ count_at key_length s at stop
+  unfolding count_at
+  got_huge w used t e a b =
       let g : Got w used = got w used e in
       let l : limit < value_of w = leb-false (value_of w) limit (sym a ∙ b) in
       let big : limit < g.value = omega (arith, g.same) in
       sym (ap (count_of at) g.stands ∙ cond_no (leb g.value limit) _ _ (lt-leb g.value limit big))
 
-  pub got-short : read.Short ≡ read_of unsigned here → Not why.Short ≡ countAt keyLength s at stop
-  unfolding countAt read_of
-  got-short e = of (coded unsigned here) refl (sym e)
+  pub got_short : read.Short ≡ read_of unsigned here → Not why.Short ≡ count_at key_length s at stop
+  unfolding count_at read_of
+  got_short e = of (coded unsigned here) refl (sym e)
     where
-      of : (c : Coded) → coded unsigned here ≡ c → readAs c ≡ read.Short → Not why.Short ≡ count_of at (coded unsigned here)
+      of : (c : Coded) → coded unsigned here ≡ c → read_as c ≡ read.Short → Not why.Short ≡ count_of at (coded unsigned here)
       of (is n u) q g = absurd (let z : ◌≡◌ {A = ℕ} 0 1 = cc in omega arith)
       of short q g = sym (ap (count_of at) q)
-      of other q g = absurd (every_byte false here (part_bytes s at stop bytes) q)
+      of other q g = absurd (every_byte false here (part_bytes_lem s at stop bytes) q)

@@ -1,7 +1,7 @@
 // Heads whose length, count or number stands behind their markers, at `from`.
 ghost use Rattle.std.specs.Prelude.{◌≡◌, ◌≤◌, length};
-ghost use Rattle.wide.specs.Members.{keyLength};
-ghost use Rattle.format.specs.Head.{countAt, spellingOf, textHead, binaryHead, holderHead, referHead, declareHead, foreignHead, key_at};
+ghost use Rattle.wide.specs.Members.{key_length};
+ghost use Rattle.format.specs.Head.{count_at, spelling_of, text_head, binary_head, holder_head, refer_head, declare_head, foreign_head, key_at};
 
 use crate::body::{bodied, spelling, text_body};
 use crate::count::length_at;
@@ -11,7 +11,7 @@ use rows::Row;
 // A text.
 pub fn text(s: &[u8], at: usize, from: usize, stop: usize) -> Head
     requires { (from ≤ stop) × (stop ≤ length s.now) }
-    ensures { result ≡ textHead at (spellingOf s.now stop (countAt keyLength s.now from stop)) }
+    ensures { result ≡ text_head at (spelling_of s.now stop (count_at key_length s.now from stop)) }
 {
     let c = length_at(s, from, stop);
     match c {
@@ -35,7 +35,7 @@ pub fn key_at(s: &[u8], at: usize, stop: usize) -> Spelling
 // A binary.
 pub fn binary(s: &[u8], at: usize, from: usize, stop: usize) -> Head
     requires { (from ≤ stop) × (stop ≤ length s.now) }
-    ensures { result ≡ binaryHead at stop (countAt keyLength s.now from stop) }
+    ensures { result ≡ binary_head at stop (count_at key_length s.now from stop) }
 {
     let c = length_at(s, from, stop);
     match c {
@@ -54,7 +54,7 @@ pub fn binary(s: &[u8], at: usize, from: usize, stop: usize) -> Head
 // An array, a record or a map.
 pub fn holder(s: &[u8], at: usize, from: usize, stop: usize, holder: Holder) -> Head
     requires { (from ≤ stop) × (stop ≤ length s.now) }
-    ensures { result ≡ holderHead holder at (countAt keyLength s.now from stop) }
+    ensures { result ≡ holder_head holder at (count_at key_length s.now from stop) }
 {
     let c = length_at(s, from, stop);
     match c {
@@ -70,7 +70,7 @@ pub fn holder(s: &[u8], at: usize, from: usize, stop: usize, holder: Holder) -> 
 // A reference.
 pub fn reference(s: &[u8], at: usize, from: usize, stop: usize) -> Head
     requires { (from ≤ stop) × (stop ≤ length s.now) }
-    ensures { result ≡ referHead at (countAt keyLength s.now from stop) }
+    ensures { result ≡ refer_head at (count_at key_length s.now from stop) }
 {
     let c = length_at(s, from, stop);
     match c {
@@ -85,7 +85,7 @@ pub fn reference(s: &[u8], at: usize, from: usize, stop: usize) -> Head
 // A declaration.
 pub fn declaration(s: &[u8], at: usize, from: usize, stop: usize) -> Head
     requires { (from ≤ stop) × (stop ≤ length s.now) }
-    ensures { result ≡ declareHead at (countAt keyLength s.now from stop) }
+    ensures { result ≡ declare_head at (count_at key_length s.now from stop) }
 {
     let c = length_at(s, from, stop);
     match c {
@@ -105,7 +105,7 @@ pub fn declaration(s: &[u8], at: usize, from: usize, stop: usize) -> Head
 // A foreign document.
 pub fn foreign(s: &[u8], at: usize, from: usize, stop: usize) -> Head
     requires { (from ≤ stop) × (stop ≤ length s.now) }
-    ensures { result ≡ foreignHead at stop (countAt keyLength s.now from stop) }
+    ensures { result ≡ foreign_head at stop (count_at key_length s.now from stop) }
 {
     let c = length_at(s, from, stop);
     match c {

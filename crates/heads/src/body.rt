@@ -1,6 +1,6 @@
 // Leaves that have a body.
 ghost use Rattle.std.specs.Prelude.{◌≡◌, ◌+◌, ◌*◌, ◌≤◌, ◌<◌, length};
-ghost use Rattle.format.specs.Head.{bodied, spelling, textHead, codepoint, charHead, floatSize};
+ghost use Rattle.format.specs.Head.{bodied, spelling, text_head, codepoint, char_head, float_size};
 
 use crate::count::index;
 use format::{Content, Head, Refusal, Spelling};
@@ -43,7 +43,7 @@ pub fn spelling(s: &[u8], place: usize, size: usize, stop: usize) -> Spelling
 // A text at `at`, whose bytes are from `place` on.
 pub fn text_body(s: &[u8], at: usize, place: usize, size: usize, stop: usize) -> Head
     requires { (place ≤ stop) × (stop ≤ length s.now) }
-    ensures { result ≡ textHead at (spelling s.now place size stop) }
+    ensures { result ≡ text_head at (spelling s.now place size stop) }
 {
     let x = spelling(s, place, size, stop);
     match x {
@@ -78,7 +78,7 @@ pub fn is_codepoint(c: usize) -> bool
 // A char behind its marker at `at`.
 pub fn char_head(s: &[u8], at: usize, stop: usize) -> Head
     requires { (at < stop) × (stop ≤ length s.now) }
-    ensures { result ≡ charHead s.now at stop }
+    ensures { result ≡ char_head s.now at stop }
 {
     if stop - at < 4 {
         return Head::Refuse {
@@ -102,9 +102,9 @@ pub fn char_head(s: &[u8], at: usize, stop: usize) -> Head
 }
 
 // The sizes of floats, by their markers 03 to 07.
-pub fn float_size(b: usize) -> usize
+pub fn float_size_lem(b: usize) -> usize
     requires { (3 ≤ b) × (b < 8) }
-    ensures { result ≡ floatSize b }
+    ensures { result ≡ float_size b }
 {
     if b == 3 {
         return 2;

@@ -1,9 +1,9 @@
 // Lengths, counts and numbers.
 ghost use Rattle.std.specs.Prelude.{◌≡◌, ◌≤◌, ◌<◌, length, leb};
 ghost use Rattle.wide.specs.Words.{value_of};
-ghost use Rattle.wide.specs.Members.{keyLength};
+ghost use Rattle.wide.specs.Members.{key_length};
 ghost use Rattle.rows.specs.Table.{limit};
-ghost use Rattle.format.specs.Head.{countAt};
+ghost use Rattle.format.specs.Head.{count_at};
 
 use format::{Count, Refusal};
 use rows::Row;
@@ -36,7 +36,7 @@ fn within(w: Wide) -> bool
 // The longer forms, too.
 fn long_length(s: &[u8], at: usize, stop: usize) -> Count
     requires { (at ≤ stop) × (stop ≤ length s.now) }
-    ensures { result ≡ countAt keyLength s.now at stop }
+    ensures { result ≡ count_at key_length s.now at stop }
 {
     let r = variable::read_unsigned(&s[at..stop]);
     match r {
@@ -58,7 +58,7 @@ fn long_length(s: &[u8], at: usize, stop: usize) -> Count
 // A length, count or number at `at`, with no marker; one byte says most of them.
 pub fn length_at(s: &[u8], at: usize, stop: usize) -> Count
     requires { (at ≤ stop) × (stop ≤ length s.now) }
-    ensures { result ≡ countAt keyLength s.now at stop }
+    ensures { result ≡ count_at key_length s.now at stop }
 {
     if stop <= at {
         return Count::Not {

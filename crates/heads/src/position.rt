@@ -1,9 +1,9 @@
 // What stands at a value position.
 ghost use Rattle.std.specs.Prelude.{◌≡◌, ◌≤◌, ◌<◌, length, get_or};
-ghost use Rattle.format.specs.Head.{integerHead, specialHead, headAt};
+ghost use Rattle.format.specs.Head.{integer_head, special_head, head_at};
 
 use crate::behind;
-use crate::body::{bodied, char_head, float_size, text_body};
+use crate::body::{bodied, char_head, float_size_lem, text_body};
 use crate::count::index;
 use format::{Content, Head, Holder, Refusal};
 use rows::Row;
@@ -12,7 +12,7 @@ use wide::size::size_at;
 // The marker 0d.
 fn special(s: &[u8], at: usize, stop: usize) -> Head
     requires { (at < stop) × (stop ≤ length s.now) × (get_or s.now at 0 ≡ 13) }
-    ensures { result ≡ specialHead s.now at stop }
+    ensures { result ≡ special_head s.now at stop }
 {
     let second = at + 1;
     if stop <= second {
@@ -37,7 +37,7 @@ fn special(s: &[u8], at: usize, stop: usize) -> Head
 // The markers 10 to 1f: integers with a body.
 fn integer(at: usize, stop: usize, rank: usize, signed: bool) -> Head
     requires { (at < stop) × (rank < 8) }
-    ensures { result ≡ integerHead at stop rank signed }
+    ensures { result ≡ integer_head at stop rank signed }
 {
     let place = at + 1;
     let size = size_at(rank);
@@ -52,7 +52,7 @@ fn integer(at: usize, stop: usize, rank: usize, signed: bool) -> Head
 // The markers 08 to 0f.
 fn special_low(s: &[u8], at: usize, stop: usize, b: usize) -> Head
     requires { (at < stop) × (stop ≤ length s.now) × (b ≡ get_or s.now at 0) × (8 ≤ b) × (b < 16) }
-    ensures { result ≡ headAt s.now at stop }
+    ensures { result ≡ head_at s.now at stop }
 {
     let from = at + 1;
     if b == 8 {
@@ -82,7 +82,7 @@ fn special_low(s: &[u8], at: usize, stop: usize, b: usize) -> Head
 // The markers 00 to 1f.
 fn low(s: &[u8], at: usize, stop: usize, b: usize) -> Head
     requires { (at < stop) × (stop ≤ length s.now) × (b ≡ get_or s.now at 0) × (b < 32) }
-    ensures { result ≡ headAt s.now at stop }
+    ensures { result ≡ head_at s.now at stop }
 {
     let next = at + 1;
     if b < 3 {
@@ -94,7 +94,7 @@ fn low(s: &[u8], at: usize, stop: usize, b: usize) -> Head
         };
     }
     if b < 8 {
-        let size = float_size(b);
+        let size = float_size_lem(b);
         let content = Content::Span {
             kind: Row::FLOAT,
             place: next,
@@ -114,7 +114,7 @@ fn low(s: &[u8], at: usize, stop: usize, b: usize) -> Head
 // The markers a0 to ff.
 fn high(s: &[u8], at: usize, stop: usize, b: usize) -> Head
     requires { (at < stop) × (stop ≤ length s.now) × (b ≡ get_or s.now at 0) × (160 ≤ b) × (b < 256) }
-    ensures { result ≡ headAt s.now at stop }
+    ensures { result ≡ head_at s.now at stop }
 {
     let next = at + 1;
     if b < 176 {
@@ -153,7 +153,7 @@ fn high(s: &[u8], at: usize, stop: usize, b: usize) -> Head
 // What stands at `at`, in bytes that end at `stop`.
 pub fn head_at(s: &[u8], at: usize, stop: usize) -> Head
     requires { stop ≤ length s.now }
-    ensures { result ≡ headAt s.now at stop }
+    ensures { result ≡ head_at s.now at stop }
 {
     if stop <= at {
         return Head::Refuse {

@@ -6,14 +6,14 @@ use Prim.Native.Nat.{ℕ, suc, ◌+◌, ◌*◌}
 use native.Mathlib.Omega.{arith}
 use lib.ListN.{length}
 use lib.Seq.{sets}
-use Rattle.rows.specs.Table.{wordsPerRow}
+use Rattle.rows.specs.Table.{words_per_row}
 use Rattle.format.specs.Tree.{size}
 use Rattle.format.specs.Value.{Reading, right, wrong, value, document}
 use Rattle.format.specs.Layout.{layout}
 use Rattle.format.proofs.Values.{document-value}
-use Rattle.measure.specs.Contracts.{row_in}
-use Rattle.registry.specs.Contracts.{chain}
-use Rattle.laying.specs.Contracts.{Right, treeRead, Ready, Did}
+use Rattle.measure.specs.Inner.{row_in}
+use Rattle.registry.specs.Inner.{chain}
+use Rattle.laying.specs.Inner.{Right, tree_read, Ready, Did}
 
 module _ (depth : ℕ) (s : List ℕ) (doubt : Bool) (table : List ℕ) (r : Ready (document depth s) doubt table 0 0 0) where
   value-is : value (depth + 1) s 0 0 (length s) ≡ document depth s
@@ -26,16 +26,16 @@ module _ (depth : ℕ) (s : List ℕ) (doubt : Bool) (table : List ℕ) (r : Rea
           ap (λ (d : ℕ). value d s 0 0 (length s)) e ∙ document-value depth s t n q ∙ sym q
       of (wrong e p) q g = absurd g
 
-  pub document-ready : Ready (value (depth + 1) s 0 0 (length s)) doubt table 0 0 0
-  document-ready = subst (λ (x : Reading). Ready x doubt table 0 0 0) (sym value-is) r
+  pub document_ready : Ready (value (depth + 1) s 0 0 (length s)) doubt table 0 0 0
+  document_ready = subst (λ (x : Reading). Ready x doubt table 0 0 0) (sym value-is) r
 
   module _ (table₁ : List ℕ) (f : ℕ) (d' : Did (value (depth + 1) s 0 0 (length s)) table 0 0 0 table₁ f) where
     d : Did (document depth s) table 0 0 0 table₁ f
     d = subst (λ (x : Reading). Did x table 0 0 0 table₁ f) value-is d'
 
-    pub rows-laid : (used : ℕ) → used ≡ row_in f → used ≡ size (treeRead (document depth s))
+    pub rows-laid : (used : ℕ) → used ≡ row_in f → used ≡ size (tree_read (document depth s))
     rows-laid used e = omega (arith, d.past)
 
-    pub words-laid : table₁ ≡ sets table 0 (layout (treeRead (document depth s)) 0 [])
+    pub words-laid : table₁ ≡ sets table 0 (layout (tree_read (document depth s)) 0 [])
     unfolding chain
-    words-laid = let at : wordsPerRow * 0 ≡ 0 = refl in cc (d.words, at)
+    words-laid = let at : words_per_row * 0 ≡ 0 = refl in cc (d.words, at)

@@ -2,10 +2,10 @@
 ghost use Rattle.std.specs.Prelude.{◌≡◌, false, ◌+◌, ◌≤◌, ◌<◌, length};
 ghost use Rattle.rows.specs.Table.{lent, limit};
 ghost use Rattle.format.specs.declared.head.Head.TheVariants.{Leaf, Refer};
-ghost use Rattle.format.specs.Head.{headAt, key_at};
-ghost use Rattle.format.specs.Value.{keyed, is_key, inForce, inForeign, child, whole, framed, value};
-ghost use Rattle.registry.specs.Contracts.{firstIn};
-ghost use Rattle.laying.specs.Contracts.{Right, Ready, Did, OneTried, KeyLaid, Damaged};
+ghost use Rattle.format.specs.Head.{head_at, key_at};
+ghost use Rattle.format.specs.Value.{keyed, is_key, in_force, in_foreign, child, whole, framed, value};
+ghost use Rattle.registry.specs.Inner.{first_in};
+ghost use Rattle.laying.specs.Inner.{Right, Ready, Did, OneTried, KeyLaid, Damaged};
 
 use format::{Children, Content, Count};
 use leaves::leaf_row;
@@ -27,8 +27,8 @@ pub fn lay_leaf(
     next: usize,
 ) -> usize
     requires ready { Ready (value levels s.now around at stop) doubt table.old row base around }
-    requires next_value { (Leaf content next ≡ headAt s.now at stop) × (stop ≤ length s.now) × (length s.now ≤ limit) }
-    ensures { Did (value levels s.now around at stop) table.old row (firstIn base) around table.new result }
+    requires next_value { (Leaf content next ≡ head_at s.now at stop) × (stop ≤ length s.now) × (length s.now ≤ limit) }
+    ensures { Did (value levels s.now around at stop) table.old row (first_in base) around table.new result }
 {
     rows::lay(table, row, leaf_row(s, row, content));
     place_and_row(next, row + 1)
@@ -49,8 +49,8 @@ pub fn lay_reference(
     next: usize,
 ) -> usize
     requires ready { Ready (value levels s.now around at stop) doubt table.old row base around }
-    requires next_value { (Refer number next ≡ headAt s.now at stop) × (stop ≤ length s.now) × (length s.now ≤ limit) }
-    ensures { Did (value levels s.now around at stop) table.old row (firstIn base) around table.new result }
+    requires next_value { (Refer number next ≡ head_at s.now at stop) × (stop ≤ length s.now) × (length s.now ≤ limit) }
+    ensures { Did (value levels s.now around at stop) table.old row (first_in base) around table.new result }
 {
     let entry = registry::entry_in(table, base, number, row);
     rows::lay(table, row, Row::reference(row, number, entry));
@@ -70,10 +70,10 @@ pub fn lay_damaged(
     doubt: bool,
     verdict: u32,
 ) -> usize
-    requires ready { Ready (framed place size (whole (place + size) (value levels s.now (inForeign around) place (place + size)))) doubt table.old row base around }
-    requires damaged { Damaged (whole (place + size) (value levels s.now (inForeign around) place (place + size))) verdict }
+    requires ready { Ready (framed place size (whole (place + size) (value levels s.now (in_foreign around) place (place + size)))) doubt table.old row base around }
+    requires damaged { Damaged (whole (place + size) (value levels s.now (in_foreign around) place (place + size))) verdict }
     requires size_in_bounds { (place + size ≤ length s.now) × (length s.now ≤ limit) }
-    ensures { Did (framed place size (whole (place + size) (value levels s.now (inForeign around) place (place + size)))) table.old row (firstIn base) around table.new result }
+    ensures { Did (framed place size (whole (place + size) (value levels s.now (in_foreign around) place (place + size)))) table.old row (first_in base) around table.new result }
 {
     rows::lay(table, row, Row::damaged(row, place, size, verdict));
     place_and_row(place + size, row + 1)
@@ -109,7 +109,7 @@ fn lay_marked(
 ) -> usize
     requires ready { Ready (value levels s.now around at stop) doubt table.old row base around }
     requires at_lt_stop { (at < stop) × (stop ≤ length s.now) × (length s.now ≤ limit) }
-    ensures { OneTried (value levels s.now around at stop) false table.old row (firstIn base) around table.new result }
+    ensures { OneTried (value levels s.now around at stop) false table.old row (first_in base) around table.new result }
 {
     let b = heads::index(s[at]);
     if b < 193 {
@@ -141,9 +141,9 @@ pub fn lay_one(
     children: Children,
     i: usize,
 ) -> usize
-    requires ready { Ready (child children (value levels s.now) s.now around i at stop) doubt table.old row base (inForce children around i) }
+    requires ready { Ready (child children (value levels s.now) s.now around i at stop) doubt table.old row base (in_force children around i) }
     requires at_le_stop { (at ≤ stop) × (stop ≤ length s.now) × (length s.now ≤ limit) }
-    ensures { OneTried (child children (value levels s.now) s.now around i at stop) (is_key children i) table.old row (firstIn base) (inForce children around i) table.new result }
+    ensures { OneTried (child children (value levels s.now) s.now around i at stop) (is_key children i) table.old row (first_in base) (in_force children around i) table.new result }
 {
     if children.is_key(i) {
         return lay_key(table, s, at, stop, row);

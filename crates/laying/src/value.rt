@@ -3,11 +3,11 @@
 // here is damaged.
 ghost use Rattle.std.specs.Prelude.{◌+◌, ◌≤◌, ◌<◌, length};
 ghost use Rattle.rows.specs.Table.{limit};
-ghost use Rattle.rows.specs.Kinds.{holderOwn};
+ghost use Rattle.rows.specs.Kinds.{holder_own};
 ghost use Rattle.format.specs.declared.head.Children.TheVariants.{Entries};
-ghost use Rattle.format.specs.Value.{kind_of, childCount, childrenOf, readings, holding, declaring, whole, inForeign, framed, value};
-ghost use Rattle.registry.specs.Contracts.{firstIn};
-ghost use Rattle.laying.specs.Contracts.{Right, Ready, Did, ReadyAll, DidAll};
+ghost use Rattle.format.specs.Value.{kind_of, child_count, children_of, readings, holding, declaring, whole, in_foreign, framed, value};
+ghost use Rattle.registry.specs.Inner.{first_in};
+ghost use Rattle.laying.specs.Inner.{Right, Ready, Did, ReadyAll, DidAll};
 
 use crate::one::{lay_damaged, lay_leaf, lay_one, lay_reference};
 use format::{Children, Head, Holder};
@@ -16,7 +16,7 @@ use measure::told::{place_and_row, place_in, row_in};
 use rows::Row;
 
 // One value position, from its own row on: its leaf is tried before its head.
-#[cycle(lay_at_lay_children_lay_declared_lay_foreign_lay_hold_lay_right_lay_value)]
+#[cycle(laying)]
 pub fn lay_value(
     table: &mut [u32],
     s: &[u8],
@@ -30,7 +30,7 @@ pub fn lay_value(
 ) -> usize
     requires ready { Ready (value levels s.now around at stop) doubt table.old row base around }
     requires stop_in_bounds { (stop ≤ length s.now) × (length s.now ≤ limit) }
-    ensures { Did (value levels s.now around at stop) table.old row (firstIn base) around table.new result }
+    ensures { Did (value levels s.now around at stop) table.old row (first_in base) around table.new result }
 {
     let next = leaves::lay_plain(table, s, at, stop, row);
     if next == 0 {
@@ -40,7 +40,7 @@ pub fn lay_value(
 }
 
 // A position by its head.
-#[cycle(lay_at_lay_children_lay_declared_lay_foreign_lay_hold_lay_right_lay_value)]
+#[cycle(laying)]
 fn lay_at(
     table: &mut [u32],
     s: &[u8],
@@ -54,7 +54,7 @@ fn lay_at(
 ) -> usize
     requires ready { Ready (value levels s.now around at stop) doubt table.old row base around }
     requires levels_nonzero { (0 < levels) × (stop ≤ length s.now) × (length s.now ≤ limit) }
-    ensures { Did (value levels s.now around at stop) table.old row (firstIn base) around table.new result }
+    ensures { Did (value levels s.now around at stop) table.old row (first_in base) around table.new result }
 {
     let h = heads::head_at(s, at, stop);
     match h {
@@ -109,7 +109,7 @@ fn lay_at(
 }
 
 // A holder whose children stand at `at`: its row last, since it tells where they end.
-#[cycle(lay_at_lay_children_lay_declared_lay_foreign_lay_hold_lay_right_lay_value)]
+#[cycle(laying)]
 fn lay_hold(
     table: &mut [u32],
     s: &[u8],
@@ -123,9 +123,9 @@ fn lay_hold(
     holder: Holder,
     count: usize,
 ) -> usize
-    requires ready { Ready (holding (holderOwn (kind_of holder) count) (readings (value levels s.now) (childrenOf holder) s.now around 0 (childCount holder count) at stop)) doubt table.old row base around }
+    requires ready { Ready (holding (holder_own (kind_of holder) count) (readings (value levels s.now) (children_of holder) s.now around 0 (child_count holder count) at stop)) doubt table.old row base around }
     requires at_le_stop { (at ≤ stop) × (stop ≤ length s.now) × (length s.now ≤ limit) × (count ≤ limit) }
-    ensures { Did (holding (holderOwn (kind_of holder) count) (readings (value levels s.now) (childrenOf holder) s.now around 0 (childCount holder count) at stop)) table.old row (firstIn base) around table.new result }
+    ensures { Did (holding (holder_own (kind_of holder) count) (readings (value levels s.now) (children_of holder) s.now around 0 (child_count holder count) at stop)) table.old row (first_in base) around table.new result }
 {
     let n = holder.children(count);
     let c = holder.reading();
@@ -137,7 +137,7 @@ fn lay_hold(
 }
 
 // A declaration whose entries stand at `at`, each in force for those behind it, and all for the value.
-#[cycle(lay_at_lay_children_lay_declared_lay_foreign_lay_hold_lay_right_lay_value)]
+#[cycle(laying)]
 fn lay_declared(
     table: &mut [u32],
     s: &[u8],
@@ -152,7 +152,7 @@ fn lay_declared(
 ) -> usize
     requires ready { Ready (declaring count (readings (value levels s.now) Entries s.now 0 0 count at stop) (value levels s.now) stop) doubt table.old row base around }
     requires at_le_stop { (at ≤ stop) × (stop ≤ length s.now) × (length s.now ≤ limit) × (count ≤ limit) }
-    ensures { Did (declaring count (readings (value levels s.now) Entries s.now 0 0 count at stop) (value levels s.now) stop) table.old row (firstIn base) around table.new result }
+    ensures { Did (declaring count (readings (value levels s.now) Entries s.now 0 0 count at stop) (value levels s.now) stop) table.old row (first_in base) around table.new result }
 {
     let under = row + 1;
     let es = lay_children(
@@ -178,7 +178,7 @@ fn lay_declared(
 }
 
 // A foreign body: where there is doubt, whether it is right is asked before a row of it is laid.
-#[cycle(lay_at_lay_children_lay_declared_lay_foreign_lay_hold_lay_right_lay_value)]
+#[cycle(laying)]
 fn lay_foreign(
     table: &mut [u32],
     s: &[u8],
@@ -190,9 +190,9 @@ fn lay_foreign(
     around: usize,
     doubt: bool,
 ) -> usize
-    requires ready { Ready (framed place size (whole (place + size) (value levels s.now (inForeign around) place (place + size)))) doubt table.old row base around }
+    requires ready { Ready (framed place size (whole (place + size) (value levels s.now (in_foreign around) place (place + size)))) doubt table.old row base around }
     requires size_in_bounds { (place + size ≤ length s.now) × (length s.now ≤ limit) }
-    ensures { Did (framed place size (whole (place + size) (value levels s.now (inForeign around) place (place + size)))) table.old row (firstIn base) around table.new result }
+    ensures { Did (framed place size (whole (place + size) (value levels s.now (in_foreign around) place (place + size)))) table.old row (first_in base) around table.new result }
 {
     if doubt {
         let end = place + size;
@@ -211,7 +211,7 @@ fn lay_foreign(
 }
 
 // A foreign body that is right.
-#[cycle(lay_at_lay_children_lay_declared_lay_foreign_lay_hold_lay_right_lay_value)]
+#[cycle(laying)]
 fn lay_right(
     table: &mut [u32],
     s: &[u8],
@@ -223,10 +223,10 @@ fn lay_right(
     around: usize,
     doubt: bool,
 ) -> usize
-    requires ready { Ready (framed place size (whole (place + size) (value levels s.now (inForeign around) place (place + size)))) doubt table.old row base around }
-    requires right { Right (whole (place + size) (value levels s.now (inForeign around) place (place + size))) }
+    requires ready { Ready (framed place size (whole (place + size) (value levels s.now (in_foreign around) place (place + size)))) doubt table.old row base around }
+    requires right { Right (whole (place + size) (value levels s.now (in_foreign around) place (place + size))) }
     requires size_in_bounds { (place + size ≤ length s.now) × (length s.now ≤ limit) }
-    ensures { Did (framed place size (whole (place + size) (value levels s.now (inForeign around) place (place + size)))) table.old row (firstIn base) around table.new result }
+    ensures { Did (framed place size (whole (place + size) (value levels s.now (in_foreign around) place (place + size)))) table.old row (first_in base) around table.new result }
 {
     let inside = format::in_foreign(around);
     let end = place + size;
@@ -238,7 +238,7 @@ fn lay_right(
 }
 
 // n children, back to back.
-#[cycle(lay_at_lay_children_lay_declared_lay_foreign_lay_hold_lay_right_lay_value)]
+#[cycle(laying)]
 fn lay_children(
     table: &mut [u32],
     s: &[u8],
@@ -254,7 +254,7 @@ fn lay_children(
 ) -> usize
     requires ready_all { ReadyAll (readings (value levels s.now) children s.now around 0 n at stop) children doubt table.old row base around 0 }
     requires at_le_stop { (at ≤ stop) × (stop ≤ length s.now) × (length s.now ≤ limit) }
-    ensures { DidAll (readings (value levels s.now) children s.now around 0 n at stop) children table.old row (firstIn base) around 0 table.new result }
+    ensures { DidAll (readings (value levels s.now) children s.now around 0 n at stop) children table.old row (first_in base) around 0 table.new result }
 {
     let mut i = 0;
     let mut place = at;

@@ -12,18 +12,18 @@ use lib.Dec.{leb}
 use borrow.Author.Tests.{le-leb, leb-true, lt-leb}
 use Rattle.wide.specs.declared.wide.Wide.{Wide}
 use Rattle.wide.specs.Words.{value_of, wide_of}
-use Rattle.wide.specs.Body.{bodyValue, size_at}
+use Rattle.wide.specs.Body.{body_value, size_at}
 use Rattle.wide.specs.Family.{number_of}
-use Rattle.wide.specs.Members.{integerSigned, keyLength}
+use Rattle.wide.specs.Members.{integer_signed, key_length}
 use Rattle.wide.proofs.Families.{cond_yes, cond_no}
 use Rattle.wide.proofs.Numbers.{either}
-use Rattle.wide.proofs.Ranks.{size_low, size-high}
+use Rattle.wide.proofs.Ranks.{size_low, size_high}
 use Rattle.text.specs.declared.answer.Text.{Text}
 use Rattle.text.specs.declared.answer.Text.TheVariants.{WellFormed, IllFormed}
-use Rattle.text.specs.Check.{text_of, wellFormed}
+use Rattle.text.specs.Check.{text_of, well_formed}
 use Rattle.rows.specs.declared.row.Row.{Row}
-use Rattle.rows.specs.Table.{wordsPerRow, words_of, limit}
-use Rattle.rows.specs.Kinds.{kindSmall, kindText, kindBinary, constantOwn, spanOwn, leafRow}
+use Rattle.rows.specs.Table.{words_per_row, words_of, limit}
+use Rattle.rows.specs.Kinds.{kind_small, kind_text, kind_binary, constant_own, span_own, leaf_row}
 use Rattle.format.specs.declared.head.Count.{Count}
 use Rattle.format.specs.declared.head.Count.TheVariants.{Is, Not}
 use Rattle.format.specs.declared.head.Content.{Content}
@@ -34,12 +34,12 @@ use Rattle.format.specs.declared.refusal.Refusal.{Refusal}
 use Rattle.format.specs.declared.refusal.Refusal.TheVariants as why
 use Rattle.format.specs.declared.head.Spelling.{Spelling}
 use Rattle.format.specs.declared.head.Spelling.TheVariants.{At, No}
-use Rattle.format.specs.Head.{countAt, bodied, spelled, spelling, spellingOf, integerHead, textHead, binaryHead, headAt, key_at}
-use Rattle.format.specs.Value.{integerOwn, integerKind, leafOwn}
+use Rattle.format.specs.Head.{count_at, bodied, spelled, spelling, spelling_of, integer_head, text_head, binary_head, head_at, key_at}
+use Rattle.format.specs.Value.{integer_own, integer_kind, leaf_own}
 use Rattle.format.proofs.Heads.{leaf-after}
 use Rattle.heads.proofs.Counts.{length-one}
 use Rattle.heads.proofs.Positions as positions
-use Rattle.leaves.specs.Contracts.{Known, end_of, LeafEnds, LeafAsked, KeyEnds, KeyAsked, LeafLaid, LeafTried}
+use Rattle.leaves.specs.Inner.{Known, end_of, LeafEnds, LeafAsked, KeyEnds, KeyAsked, LeafLaid, LeafTried}
 use Rattle.leaves.proofs.Leaves.{constant-row, small_row, integer-row, span-row}
 
 -- ---- what a body asks
@@ -48,63 +48,63 @@ pub body-some : (rank size : ℕ) → rank < 8 → size ≡ size_at rank → 1 �
 body-some rank size h e = omega (arith, size_low rank h)
 
 pub body-few : (rank size : ℕ) → rank < 8 → size ≡ size_at rank → size ≤ 16
-body-few rank size h e = omega (arith, size-high rank h)
+body-few rank size h e = omega (arith, size_high rank h)
 
 -- ---- what is no refusal
 
 -- what stands at `at`, said otherwise
-pub known_as : (h : Head) (s : List ℕ) (at stop : ℕ) → Known (headAt s at stop) → h ≡ headAt s at stop → Known h
+pub known_as : (h : Head) (s : List ℕ) (at stop : ℕ) → Known (head_at s at stop) → h ≡ head_at s at stop → Known h
 known_as h s at stop k e = subst Known (sym e) k
 
 -- its bytes are there
-body-there : (at place size stop : ℕ) (c : Content) → Known (bodied at c place size stop) → size ≤ stop - place
-body-there at place size stop c k = of (leb size (stop - place)) refl k
+body_there : (at place size stop : ℕ) (c : Content) → Known (bodied at c place size stop) → size ≤ stop - place
+body_there at place size stop c k = of (leb size (stop - place)) refl k
   where
     of : (b : Bool) → leb size (stop - place) ≡ b → Known (cond b (Leaf c (place + size)) (Refuse why.Short at)) → size ≤ stop - place
     of true e k = leb-true size (stop - place) e
     of false e k = absurd k
 
-module _ (s : List ℕ) (at place size stop : ℕ) (k : Known (textHead at (spelling s place size stop))) where
-  text-there : size ≤ stop - place
-  text-there = of (leb size (stop - place)) refl (text_of (take size (drop place s))) k
+module _ (s : List ℕ) (at place size stop : ℕ) (k : Known (text_head at (spelling s place size stop))) where
+  text_there : size ≤ stop - place
+  text_there = of (leb size (stop - place)) refl (text_of (take size (drop place s))) k
     where
-      of : (b : Bool) → leb size (stop - place) ≡ b → (x : Text) → Known (textHead at (cond b (spelled place size x) (No why.Short))) → size ≤ stop - place
+      of : (b : Bool) → leb size (stop - place) ≡ b → (x : Text) → Known (text_head at (cond b (spelled place size x) (No why.Short))) → size ≤ stop - place
       of true e x k = leb-true size (stop - place) e
       of false e x k = absurd k
 
   -- and are text
-  text-known : textHead at (spelling s place size stop) ≡ Leaf (Span kindText place size) (place + size)
-  text-known = of (leb size (stop - place)) (text_of (take size (drop place s))) k
+  text_known : text_head at (spelling s place size stop) ≡ Leaf (Span kind_text place size) (place + size)
+  text_known = of (leb size (stop - place)) (text_of (take size (drop place s))) k
     where
-      of : (b : Bool) (x : Text) → Known (textHead at (cond b (spelled place size x) (No why.Short))) → textHead at (cond b (spelled place size x) (No why.Short)) ≡ Leaf (Span kindText place size) (place + size)
+      of : (b : Bool) (x : Text) → Known (text_head at (cond b (spelled place size x) (No why.Short))) → text_head at (cond b (spelled place size x) (No why.Short)) ≡ Leaf (Span kind_text place size) (place + size)
       of true WellFormed k = refl
       of true (IllFormed o) k = absurd k
       of false x k = absurd k
 
   module _ (l : place ≤ stop) (a : stop ≤ length s) (few : length s ≤ limit) where
     pub text-size : size ≤ limit
-    text-size = omega (arith, text-there)
+    text-size = omega (arith, text_there)
 
     pub text-fits : Fits w64 (place + size)
-    text-fits = omega (arith, text-there)
+    text-fits = omega (arith, text_there)
 
 module _ (at place size stop : ℕ) (c : Content) (k : Known (bodied at c place size stop)) (l : place ≤ stop) (n : ℕ) (a : stop ≤ n) (few : n ≤ limit) where
   pub body-size : size ≤ limit
-  body-size = omega (arith, body-there at place size stop c k)
+  body-size = omega (arith, body_there at place size stop c k)
 
   pub body-fits : Fits w64 (place + size)
-  body-fits = omega (arith, body-there at place size stop c k)
+  body-fits = omega (arith, body_there at place size stop c k)
 
 -- an integer's
-module _ (at stop rank size : ℕ) (signed : Bool) (z : size ≡ size_at rank) (l : at < stop) (k : Known (integerHead at stop rank signed)) where
-  integer-there : size ≤ stop - (at + 1)
-  integer-there = rw z (body-there at (at + 1) (size_at rank) stop (Integer signed (at + 1) (size_at rank)) k)
+module _ (at stop rank size : ℕ) (signed : Bool) (z : size ≡ size_at rank) (l : at < stop) (k : Known (integer_head at stop rank signed)) where
+  integer_there : size ≤ stop - (at + 1)
+  integer_there = rw z (body_there at (at + 1) (size_at rank) stop (Integer signed (at + 1) (size_at rank)) k)
 
   pub integer-inside : (n : ℕ) → stop ≤ n → at + 1 + size ≤ n
-  integer-inside n h = omega (arith, integer-there)
+  integer-inside n h = omega (arith, integer_there)
 
   pub integer-fits : (n : ℕ) → stop ≤ n → n ≤ limit → Fits w64 (at + 1 + size)
-  integer-fits n a h = omega (arith, integer-there)
+  integer-fits n a h = omega (arith, integer_there)
 
 -- ---- one row
 
@@ -113,80 +113,80 @@ pub kept : (h : Head) (s table : List ℕ) (row : ℕ) → LeafTried h s table r
 kept h s table row = record { kept = λ e. refl; laid = λ n. absurd (n refl) }
 
 -- the row q of the leaf c is laid
-laid : (h : Head) (s table : List ℕ) (row : ℕ) (table' : List ℕ) (next : ℕ) (c : Content) (q : Row) → h ≡ Leaf c next → q ≡ leafRow (leafOwn s c) row
-    → table' ≡ sets table (wordsPerRow * row) (words_of q) → LeafLaid h s table row table' next
-laid h s table row table' next c q e w f = record { content = c; is = e; put = f ∙ ap (λ (x : Row). sets table (wordsPerRow * row) (words_of x)) w }
+laid : (h : Head) (s table : List ℕ) (row : ℕ) (table' : List ℕ) (next : ℕ) (c : Content) (q : Row) → h ≡ Leaf c next → q ≡ leaf_row (leaf_own s c) row
+    → table' ≡ sets table (words_per_row * row) (words_of q) → LeafLaid h s table row table' next
+laid h s table row table' next c q e w f = record { content = c; is = e; put = f ∙ ap (λ (x : Row). sets table (words_per_row * row) (words_of x)) w }
 
 -- the same head, said otherwise
 laid_as : (h h' : Head) (s table : List ℕ) (row : ℕ) (table' : List ℕ) (r : ℕ) → h ≡ h' → LeafLaid h s table row table' r → LeafLaid h' s table row table' r
 laid_as h h' s table row table' r e t = subst (λ (x : Head). LeafLaid x s table row table' r) e t
 
 -- what stands at `at` is laid: it ends behind its place, so not at 0
-pub tried : (h : Head) (s : List ℕ) (at stop : ℕ) (table : List ℕ) (row : ℕ) (table' : List ℕ) (r : ℕ) → h ≡ headAt s at stop
-    → LeafLaid h s table row table' r → LeafTried (headAt s at stop) s table row table' r
+pub tried : (h : Head) (s : List ℕ) (at stop : ℕ) (table : List ℕ) (row : ℕ) (table' : List ℕ) (r : ℕ) → h ≡ head_at s at stop
+    → LeafLaid h s table row table' r → LeafTried (head_at s at stop) s table row table' r
 tried h s at stop table row table' r e t =
     record {
       kept = λ z. absurd (let n : ⊥ = omega (arith, leaf-after s at stop h e t.content r t.is) in n);
-      laid = λ z. laid_as h (headAt s at stop) s table row table' r e t;
+      laid = λ z. laid_as h (head_at s at stop) s table row table' r e t;
     }
 
-module _ (s table : List ℕ) (at row : ℕ) (table' : List ℕ) (q : Row) (f : table' ≡ sets table (wordsPerRow * row) (words_of q)) where
+module _ (s table : List ℕ) (at row : ℕ) (table' : List ℕ) (q : Row) (f : table' ≡ sets table (words_per_row * row) (words_of q)) where
   -- a text, or a binary
   module _ (place size stop : ℕ) where
-    pub text-laid : Known (textHead at (spelling s place size stop)) → q ≡ leafRow (spanOwn kindText place size) row
-        → LeafLaid (textHead at (spelling s place size stop)) s table row table' (place + size)
+    pub text-laid : Known (text_head at (spelling s place size stop)) → q ≡ leaf_row (span_own kind_text place size) row
+        → LeafLaid (text_head at (spelling s place size stop)) s table row table' (place + size)
     text-laid k r =
-        laid (textHead at (spelling s place size stop)) s table row table' (place + size) (Span kindText place size) q
-        (text-known s at place size stop k) (span-row s (Span kindText place size) row q kindText place size refl r) f
+        laid (text_head at (spelling s place size stop)) s table row table' (place + size) (Span kind_text place size) q
+        (text_known s at place size stop k) (span-row s (Span kind_text place size) row q kind_text place size refl r) f
 
-    pub binary-laid : Known (bodied at (Span kindBinary place size) place size stop) → q ≡ leafRow (spanOwn kindBinary place size) row
-        → LeafLaid (bodied at (Span kindBinary place size) place size stop) s table row table' (place + size)
+    pub binary-laid : Known (bodied at (Span kind_binary place size) place size stop) → q ≡ leaf_row (span_own kind_binary place size) row
+        → LeafLaid (bodied at (Span kind_binary place size) place size stop) s table row table' (place + size)
     binary-laid k r =
-        laid (bodied at (Span kindBinary place size) place size stop) s table row table' (place + size) (Span kindBinary place size) q
-        (sym (positions.body-there at place size stop (Span kindBinary place size) (body-there at place size stop (Span kindBinary place size) k)))
-        (span-row s (Span kindBinary place size) row q kindBinary place size refl r) f
+        laid (bodied at (Span kind_binary place size) place size stop) s table row table' (place + size) (Span kind_binary place size) q
+        (sym (positions.body_there at place size stop (Span kind_binary place size) (body_there at place size stop (Span kind_binary place size) k)))
+        (span-row s (Span kind_binary place size) row q kind_binary place size refl r) f
 
-  pub integer-laid : (stop rank size : ℕ) (signed : Bool) (w : Wide) (kind : ℕ) → at < stop → Known (integerHead at stop rank signed) → size ≡ size_at rank
-      → w ≡ wide_of (bodyValue signed (take size (drop (at + 1) s))) → kind ≡ integerKind signed (value_of w)
-      → q ≡ leafRow (integerOwn kind w) row → LeafLaid (integerHead at stop rank signed) s table row table' (at + 1 + size)
+  pub integer-laid : (stop rank size : ℕ) (signed : Bool) (w : Wide) (kind : ℕ) → at < stop → Known (integer_head at stop rank signed) → size ≡ size_at rank
+      → w ≡ wide_of (body_value signed (take size (drop (at + 1) s))) → kind ≡ integer_kind signed (value_of w)
+      → q ≡ leaf_row (integer_own kind w) row → LeafLaid (integer_head at stop rank signed) s table row table' (at + 1 + size)
   integer-laid stop rank size signed w kind l known z v k r =
-      let h : size ≤ stop - (at + 1) = integer-there at stop rank size signed z l known in
+      let h : size ≤ stop - (at + 1) = integer_there at stop rank size signed z l known in
       rw (← z) (laid (bodied at (Integer signed (at + 1) size) (at + 1) size stop) s table row table' (at + 1 + size) (Integer signed (at + 1) size) q
-      (sym (positions.body-there at (at + 1) size stop (Integer signed (at + 1) size) h))
+      (sym (positions.body_there at (at + 1) size stop (Integer signed (at + 1) size) h))
       (integer-row s (Integer signed (at + 1) size) row q signed (at + 1) size w kind refl v k r) f)
 
-  pub small-laid : (stop m : ℕ) (w : Wide) → Leaf (Small m) (at + 1) ≡ headAt s at stop → w ≡ wide_of (number_of integerSigned.direct m)
-      → q ≡ leafRow (integerOwn kindSmall w) row → LeafLaid (headAt s at stop) s table row table' (at + 1)
+  pub small-laid : (stop m : ℕ) (w : Wide) → Leaf (Small m) (at + 1) ≡ head_at s at stop → w ≡ wide_of (number_of integer_signed.direct m)
+      → q ≡ leaf_row (integer_own kind_small w) row → LeafLaid (head_at s at stop) s table row table' (at + 1)
   small-laid stop m w e v r =
-      laid (headAt s at stop) s table row table' (at + 1) (Small m) q (sym e) (small_row s (Small m) row q m w refl v r) f
+      laid (head_at s at stop) s table row table' (at + 1) (Small m) q (sym e) (small_row s (Small m) row q m w refl v r) f
 
-  pub constant-laid : (stop kind : ℕ) → Leaf (Constant kind) (at + 1) ≡ headAt s at stop → q ≡ leafRow (constantOwn kind) row
-      → LeafLaid (headAt s at stop) s table row table' (at + 1)
+  pub constant-laid : (stop kind : ℕ) → Leaf (Constant kind) (at + 1) ≡ head_at s at stop → q ≡ leaf_row (constant_own kind) row
+      → LeafLaid (head_at s at stop) s table row table' (at + 1)
   constant-laid stop kind e r =
-      laid (headAt s at stop) s table row table' (at + 1) (Constant kind) q (sym e) (constant-row s (Constant kind) row q kind refl r) f
+      laid (head_at s at stop) s table row table' (at + 1) (Constant kind) q (sym e) (constant-row s (Constant kind) row q kind refl r) f
 
 -- ---- where it ends
 
-pub not-asked : (h : Head) → LeafAsked h 0
-not-asked h = record { ends = λ n. absurd (n refl) }
+pub not_asked : (h : Head) → LeafAsked h 0
+not_asked h = record { ends = λ n. absurd (n refl) }
 
 -- what stands at `at`, said otherwise
 module _ (s : List ℕ) (at stop : ℕ) where
-  pub asked-as : (h : Head) (r : ℕ) → LeafAsked h r → h ≡ headAt s at stop → LeafAsked (headAt s at stop) r
-  asked-as h r t e = subst (λ (x : Head). LeafAsked x r) e t
+  pub asked_as : (h : Head) (r : ℕ) → LeafAsked h r → h ≡ head_at s at stop → LeafAsked (head_at s at stop) r
+  asked_as h r t e = subst (λ (x : Head). LeafAsked x r) e t
 
-  leaf-asked : (c : Content) (next : ℕ) → Leaf c next ≡ headAt s at stop → LeafAsked (headAt s at stop) next
+  leaf-asked : (c : Content) (next : ℕ) → Leaf c next ≡ head_at s at stop → LeafAsked (head_at s at stop) next
   leaf-asked c next e = record { ends = λ n. record { content = c; is = sym e } }
 
-pub text-asked : (s : List ℕ) (at place size stop : ℕ) → size ≤ stop - place → (b : Bool) → b ≡ wellFormed (text_of (take (place + size - place) (drop place s))) → b ≡ true
-    → LeafAsked (textHead at (spelling s place size stop)) (place + size)
-text-asked s at place size stop h b e t = record { ends = λ n. record { content = Span kindText place size; is = sym (ap (textHead at) (positions.spelling-well s place size stop b h e t)) } }
+pub text-asked : (s : List ℕ) (at place size stop : ℕ) → size ≤ stop - place → (b : Bool) → b ≡ well_formed (text_of (take (place + size - place) (drop place s))) → b ≡ true
+    → LeafAsked (text_head at (spelling s place size stop)) (place + size)
+text-asked s at place size stop h b e t = record { ends = λ n. record { content = Span kind_text place size; is = sym (ap (text_head at) (positions.spelling_well s place size stop b h e t)) } }
 
 pub end_none : (place size stop : ℕ) → stop - place < size → 0 ≡ end_of place size stop
 end_none place size stop h = sym (cond_no (leb size (stop - place)) _ _ (lt-leb size (stop - place) h))
 
-pub end-there : (place size stop : ℕ) → size ≤ stop - place → place + size ≡ end_of place size stop
-end-there place size stop h = sym (cond_yes (leb size (stop - place)) _ _ (le-leb size (stop - place) h))
+pub end_there : (place size stop : ℕ) → size ≤ stop - place → place + size ≡ end_of place size stop
+end_there place size stop h = sym (cond_yes (leb size (stop - place)) _ _ (le-leb size (stop - place) h))
 
 body-asked : (at place size stop : ℕ) (c : Content) (r : ℕ) → r ≡ end_of place size stop → LeafAsked (bodied at c place size stop) r
 body-asked at place size stop c r e = of (leb size (stop - place)) e
@@ -199,53 +199,53 @@ body-asked at place size stop c r e = of (leb size (stop - place)) e
 
 module _ (s : List ℕ) (at stop : ℕ) (l : at < stop) (h : stop ≤ length s) where
   module _ (b m : ℕ) (e : m ≡ get_or s at 0) (g : b ≡ m) where
-    pub signed-head : 16 ≤ b → b < 24 → integerHead at stop (b - 16) true ≡ headAt s at stop
-    signed-head low high = positions.head-signed s at stop l b _ (g ∙ e) low high refl
+    pub signed_head : 16 ≤ b → b < 24 → integer_head at stop (b - 16) true ≡ head_at s at stop
+    signed_head low high = positions.head_signed s at stop l b _ (g ∙ e) low high refl
 
-    pub unsigned-head : 24 ≤ b → b < 32 → integerHead at stop (b - 24) false ≡ headAt s at stop
-    unsigned-head low high = positions.head-unsigned s at stop l b _ (g ∙ e) low high refl
+    pub unsigned_head : 24 ≤ b → b < 32 → integer_head at stop (b - 24) false ≡ head_at s at stop
+    unsigned_head low high = positions.head_unsigned s at stop l b _ (g ∙ e) low high refl
 
-    pub constant-head : b < 3 → Leaf (Constant (b + 1)) (at + 1) ≡ headAt s at stop
-    constant-head low = positions.head-constant s at stop l b (g ∙ e) low
+    pub constant_head : b < 3 → Leaf (Constant (b + 1)) (at + 1) ≡ head_at s at stop
+    constant_head low = positions.head_constant s at stop l b (g ∙ e) low
 
-    pub small-head : 32 ≤ b → b < 128 → Leaf (Small m) (at + 1) ≡ headAt s at stop
-    small-head low high = ap (λ (x : ℕ). Leaf (Small x) (at + 1)) e ∙ positions.head_small s at stop l b (g ∙ e) low high
+    pub small_head : 32 ≤ b → b < 128 → Leaf (Small m) (at + 1) ≡ head_at s at stop
+    small_head low high = ap (λ (x : ℕ). Leaf (Small x) (at + 1)) e ∙ positions.head_small s at stop l b (g ∙ e) low high
 
-    pub text_head : 128 ≤ b → b < 160 → textHead at (spelling s (at + 1) (b - 127) stop) ≡ headAt s at stop
-    text_head low high = positions.head-text s at stop l h b _ (g ∙ e) low high refl
+    pub text_head_lem : 128 ≤ b → b < 160 → text_head at (spelling s (at + 1) (b - 127) stop) ≡ head_at s at stop
+    text_head_lem low high = positions.head_text s at stop l h b _ (g ∙ e) low high refl
 
-    pub long-text-head : b ≡ 8 → textHead at (spellingOf s stop (countAt keyLength s (at + 1) stop)) ≡ headAt s at stop
-    long-text-head f = positions.head-long-text s at stop l h b _ (g ∙ e) f refl
+    pub long-text_head : b ≡ 8 → text_head at (spelling_of s stop (count_at key_length s (at + 1) stop)) ≡ head_at s at stop
+    long-text_head f = positions.head_long-text s at stop l h b _ (g ∙ e) f refl
 
-    pub binary-head : b ≡ 12 → binaryHead at stop (countAt keyLength s (at + 1) stop) ≡ headAt s at stop
-    binary-head f = positions.head-binary s at stop l h b _ (g ∙ e) f refl
+    pub binary-head : b ≡ 12 → binary_head at stop (count_at key_length s (at + 1) stop) ≡ head_at s at stop
+    binary-head f = positions.head_binary s at stop l h b _ (g ∙ e) f refl
 
     -- its end was asked
-    pub constant-asked : b < 3 → LeafAsked (headAt s at stop) (at + 1)
-    constant-asked low = leaf-asked s at stop (Constant (b + 1)) (at + 1) (constant-head low)
+    pub constant-asked : b < 3 → LeafAsked (head_at s at stop) (at + 1)
+    constant-asked low = leaf-asked s at stop (Constant (b + 1)) (at + 1) (constant_head low)
 
-    pub small-asked : 32 ≤ b → b < 128 → LeafAsked (headAt s at stop) (at + 1)
-    small-asked low high = leaf-asked s at stop (Small m) (at + 1) (small-head low high)
+    pub small-asked : 32 ≤ b → b < 128 → LeafAsked (head_at s at stop) (at + 1)
+    small-asked low high = leaf-asked s at stop (Small m) (at + 1) (small_head low high)
 
-    pub integer-asked : (size r : ℕ) → 16 ≤ b → b < 32 → size ≡ size_at (b % 8) → r ≡ end_of (at + 1) size stop → LeafAsked (headAt s at stop) r
+    pub integer-asked : (size r : ℕ) → 16 ≤ b → b < 32 → size ≡ size_at (b % 8) → r ≡ end_of (at + 1) size stop → LeafAsked (head_at s at stop) r
     integer-asked size r low high z t =
         either 24 b
         (λ (i : 24 ≤ b). let q : b % 8 ≡ b - 24 = omega arith in
-        asked-as s at stop _ r (body-asked at (at + 1) (size_at (b - 24)) stop (Integer false (at + 1) (size_at (b - 24))) r (t ∙ ap (λ (n : ℕ). end_of (at + 1) n stop) (z ∙ ap size_at q))) (unsigned-head i high))
+        asked_as s at stop _ r (body-asked at (at + 1) (size_at (b - 24)) stop (Integer false (at + 1) (size_at (b - 24))) r (t ∙ ap (λ (n : ℕ). end_of (at + 1) n stop) (z ∙ ap size_at q))) (unsigned_head i high))
         (λ (i : b < 24). let q : b % 8 ≡ b - 16 = omega arith in
-        asked-as s at stop _ r (body-asked at (at + 1) (size_at (b - 16)) stop (Integer true (at + 1) (size_at (b - 16))) r (t ∙ ap (λ (n : ℕ). end_of (at + 1) n stop) (z ∙ ap size_at q))) (signed-head low i))
+        asked_as s at stop _ r (body-asked at (at + 1) (size_at (b - 16)) stop (Integer true (at + 1) (size_at (b - 16))) r (t ∙ ap (λ (n : ℕ). end_of (at + 1) n stop) (z ∙ ap size_at q))) (signed_head low i))
 
   -- the length is one byte
   module _ (m : ℕ) (e : m ≡ get_or s at 0) (n : ℕ) (c : n ≡ get_or s (at + 1) 0) (few : n ≤ 247) (there : at + 2 ≤ stop) (r : ℕ) where
-    count : countAt keyLength s (at + 1) stop ≡ Is n (at + 2)
+    count : count_at key_length s (at + 1) stop ≡ Is n (at + 2)
     count = let p : at + 1 + 1 ≡ at + 2 = omega arith in sym (length-one s (at + 1) stop n (omega arith) h c (omega arith)) ∙ ap (Is n) p
 
-    pub short-text-asked : m ≡ 8 → LeafAsked (textHead at (spelling s (at + 2) n stop)) r → LeafAsked (headAt s at stop) r
-    short-text-asked g t = asked-as s at stop _ r t (ap (λ (c : Count). textHead at (spellingOf s stop c)) (sym count) ∙ long-text-head m m e refl g)
+    pub short-text-asked : m ≡ 8 → LeafAsked (text_head at (spelling s (at + 2) n stop)) r → LeafAsked (head_at s at stop) r
+    short-text-asked g t = asked_as s at stop _ r t (ap (λ (c : Count). text_head at (spelling_of s stop c)) (sym count) ∙ long-text_head m m e refl g)
 
-    pub short-binary-asked : m ≡ 12 → r ≡ end_of (at + 2) n stop → LeafAsked (headAt s at stop) r
+    pub short-binary-asked : m ≡ 12 → r ≡ end_of (at + 2) n stop → LeafAsked (head_at s at stop) r
     short-binary-asked g t =
-        asked-as s at stop _ r (body-asked at (at + 2) n stop (Span kindBinary (at + 2) n) r t) (ap (binaryHead at stop) (sym count) ∙ binary-head m m e refl g)
+        asked_as s at stop _ r (body-asked at (at + 2) n stop (Span kind_binary (at + 2) n) r t) (ap (binary_head at stop) (sym count) ∙ binary-head m m e refl g)
 
 -- ---- a key
 
@@ -253,38 +253,38 @@ pub not_key : (x : Spelling) → KeyAsked x 0
 not_key x = record { ends = λ n. absurd (n refl) }
 
 -- a text that ends there is a key's
-text-key : (at : ℕ) (x : Spelling) (r : ℕ) → LeafEnds (textHead at x) r → KeyEnds x r
-text-key at (At place n) r w = record { place = place; size = n; is = refl; ends = (let e : Leaf (Span kindText place n) (place + n) ≡ Leaf w.content r = w.is in cc) }
-text-key at (No e) r w = absurd (let q : Refuse e at ≡ Leaf w.content r = w.is in let z : ◌≡◌ {A = ℕ} 0 1 = cc in omega arith)
+text_key : (at : ℕ) (x : Spelling) (r : ℕ) → LeafEnds (text_head at x) r → KeyEnds x r
+text_key at (At place n) r w = record { place = place; size = n; is = refl; ends = (let e : Leaf (Span kind_text place n) (place + n) ≡ Leaf w.content r = w.is in cc) }
+text_key at (No e) r w = absurd (let q : Refuse e at ≡ Leaf w.content r = w.is in let z : ◌≡◌ {A = ℕ} 0 1 = cc in omega arith)
 
-pub key-asked : (s : List ℕ) (at stop n r : ℕ) → at < stop → stop ≤ length s → n ≡ get_or s at 0 → n ≤ 247
-    → LeafAsked (textHead at (spelling s (at + 1) n stop)) r → KeyAsked (key_at s at stop) r
+pub key_asked : (s : List ℕ) (at stop n r : ℕ) → at < stop → stop ≤ length s → n ≡ get_or s at 0 → n ≤ 247
+    → LeafAsked (text_head at (spelling s (at + 1) n stop)) r → KeyAsked (key_at s at stop) r
 unfolding key_at
-key-asked s at stop n r l h e few w =
-    let is : spelling s (at + 1) n stop ≡ key_at s at stop = ap (spellingOf s stop) (length-one s at stop n l h e (omega arith)) in
-    record { ends = λ z. subst (λ (x : Spelling). KeyEnds x r) is (text-key at (spelling s (at + 1) n stop) r (w.ends z)) }
+key_asked s at stop n r l h e few w =
+    let is : spelling s (at + 1) n stop ≡ key_at s at stop = ap (spelling_of s stop) (length-one s at stop n l h e (omega arith)) in
+    record { ends = λ z. subst (λ (x : Spelling). KeyEnds x r) is (text_key at (spelling s (at + 1) n stop) r (w.ends z)) }
 
 -- ---- behind a length
 
-module _ (s : List ℕ) (at stop : ℕ) (c : Count) (e : c ≡ countAt keyLength s (at + 1) stop) where
+module _ (s : List ℕ) (at stop : ℕ) (c : Count) (e : c ≡ count_at key_length s (at + 1) stop) where
   -- what is no refusal has a length
   module _ (y : Refusal) (f : c ≡ Not y) where
-    pub spelt-never : Known (textHead at (spellingOf s stop (countAt keyLength s (at + 1) stop))) → ⊥
-    spelt-never k = subst (λ (x : Count). Known (textHead at (spellingOf s stop x))) (sym e ∙ f) k
+    pub spelt_never : Known (text_head at (spelling_of s stop (count_at key_length s (at + 1) stop))) → ⊥
+    spelt_never k = subst (λ (x : Count). Known (text_head at (spelling_of s stop x))) (sym e ∙ f) k
 
-    pub bodied-never : Known (binaryHead at stop (countAt keyLength s (at + 1) stop)) → ⊥
-    bodied-never k = subst (λ (x : Count). Known (binaryHead at stop x)) (sym e ∙ f) k
+    pub bodied_never : Known (binary_head at stop (count_at key_length s (at + 1) stop)) → ⊥
+    bodied_never k = subst (λ (x : Count). Known (binary_head at stop x)) (sym e ∙ f) k
 
   module _ (n next : ℕ) (f : c ≡ Is n next) where
-    pub spelt-known : Known (textHead at (spellingOf s stop (countAt keyLength s (at + 1) stop))) → Known (textHead at (spelling s next n stop))
-    spelt-known k = subst (λ (x : Count). Known (textHead at (spellingOf s stop x))) (sym e ∙ f) k
+    pub spelt_known : Known (text_head at (spelling_of s stop (count_at key_length s (at + 1) stop))) → Known (text_head at (spelling s next n stop))
+    spelt_known k = subst (λ (x : Count). Known (text_head at (spelling_of s stop x))) (sym e ∙ f) k
 
-    pub bodied-known : Known (binaryHead at stop (countAt keyLength s (at + 1) stop)) → Known (bodied at (Span kindBinary next n) next n stop)
-    bodied-known k = subst (λ (x : Count). Known (binaryHead at stop x)) (sym e ∙ f) k
+    pub bodied_known : Known (binary_head at stop (count_at key_length s (at + 1) stop)) → Known (bodied at (Span kind_binary next n) next n stop)
+    bodied_known k = subst (λ (x : Count). Known (binary_head at stop x)) (sym e ∙ f) k
 
     module _ (table : List ℕ) (row : ℕ) (table' : List ℕ) (r : ℕ) where
-      pub spelt-laid : LeafLaid (textHead at (spelling s next n stop)) s table row table' r → LeafLaid (textHead at (spellingOf s stop (countAt keyLength s (at + 1) stop))) s table row table' r
-      spelt-laid t = laid_as _ _ s table row table' r (ap (λ (x : Count). textHead at (spellingOf s stop x)) (sym f ∙ e)) t
+      pub spelt-laid : LeafLaid (text_head at (spelling s next n stop)) s table row table' r → LeafLaid (text_head at (spelling_of s stop (count_at key_length s (at + 1) stop))) s table row table' r
+      spelt-laid t = laid_as _ _ s table row table' r (ap (λ (x : Count). text_head at (spelling_of s stop x)) (sym f ∙ e)) t
 
-      pub bodied-laid : LeafLaid (bodied at (Span kindBinary next n) next n stop) s table row table' r → LeafLaid (binaryHead at stop (countAt keyLength s (at + 1) stop)) s table row table' r
-      bodied-laid t = laid_as _ _ s table row table' r (ap (binaryHead at stop) (sym f ∙ e)) t
+      pub bodied-laid : LeafLaid (bodied at (Span kind_binary next n) next n stop) s table row table' r → LeafLaid (binary_head at stop (count_at key_length s (at + 1) stop)) s table row table' r
+      bodied-laid t = laid_as _ _ s table row table' r (ap (binary_head at stop) (sym f ∙ e)) t

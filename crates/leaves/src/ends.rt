@@ -2,8 +2,8 @@
 // behind it, or 0 where it is another, or none.
 ghost use Rattle.std.specs.Prelude.{◌+◌, ◌≤◌, ◌<◌, ◌≡◌, length, get_or};
 ghost use Rattle.rows.specs.Table.{limit};
-ghost use Rattle.format.specs.Head.{spelling, textHead, headAt, key_at};
-ghost use Rattle.leaves.specs.Contracts.{LeafAsked, KeyAsked, end_of};
+ghost use Rattle.format.specs.Head.{spelling, text_head, head_at, key_at};
+ghost use Rattle.leaves.specs.Inner.{LeafAsked, KeyAsked, end_of};
 
 use wide::size::size_at;
 
@@ -21,7 +21,7 @@ fn end_body(place: usize, size: usize, stop: usize) -> usize
 // A text of `size` bytes at `place`.
 fn end_text(s: &[u8], at: usize, place: usize, size: usize, stop: usize) -> usize
     requires { (at < place) × (place ≤ stop) × (stop ≤ length s.now) × (length s.now ≤ limit) }
-    ensures { LeafAsked (textHead at (spelling s.now place size stop)) result }
+    ensures { LeafAsked (text_head at (spelling s.now place size stop)) result }
 {
     if stop - place < size {
         return 0;
@@ -36,7 +36,7 @@ fn end_text(s: &[u8], at: usize, place: usize, size: usize, stop: usize) -> usiz
 // A text or a binary whose length is one byte, behind the marker.
 fn end_short(s: &[u8], at: usize, stop: usize, marker: u8) -> usize
     requires { (at < stop) × (stop ≤ length s.now) × (length s.now ≤ limit) × (marker ≡ get_or s.now at 0) }
-    ensures { LeafAsked (headAt s.now at stop) result }
+    ensures { LeafAsked (head_at s.now at stop) result }
 {
     let place = at + 2;
     if stop < place {
@@ -58,7 +58,7 @@ fn end_short(s: &[u8], at: usize, stop: usize, marker: u8) -> usize
 // The leaf at `at`.
 pub fn end_plain(s: &[u8], at: usize, stop: usize) -> usize
     requires { (at ≤ stop) × (stop ≤ length s.now) × (length s.now ≤ limit) }
-    ensures { LeafAsked (headAt s.now at stop) result }
+    ensures { LeafAsked (head_at s.now at stop) result }
 {
     if stop <= at {
         return 0;

@@ -1,13 +1,13 @@
 // Leaves whose first bytes tell all of them: each is laid with no head between, for speed alone. What stands here is known to be no refusal, so
 // no text and no room is asked again; a length is read once more. Every answer is the place behind the leaf.
 ghost use Rattle.std.specs.Prelude.{◌+◌, ◌≤◌, ◌<◌, ◌≡◌, length};
-ghost use Rattle.wide.specs.Members.{keyLength};
+ghost use Rattle.wide.specs.Members.{key_length};
 ghost use Rattle.rows.specs.Table.{lent, limit};
-ghost use Rattle.rows.specs.Kinds.{kindBinary};
+ghost use Rattle.rows.specs.Kinds.{kind_binary};
 ghost use Rattle.format.specs.declared.head.Content.TheVariants.{Constant, Small, Span};
 ghost use Rattle.format.specs.declared.head.Head.TheVariants.{Leaf};
-ghost use Rattle.format.specs.Head.{countAt, bodied, spelling, spellingOf, textHead, binaryHead, integerHead, headAt};
-ghost use Rattle.leaves.specs.Contracts.{Known, LeafLaid, LeafTried};
+ghost use Rattle.format.specs.Head.{count_at, bodied, spelling, spelling_of, text_head, binary_head, integer_head, head_at};
+ghost use Rattle.leaves.specs.Inner.{Known, LeafLaid, LeafTried};
 
 use crate::leaf::{integer_kind, integer_row};
 use format::Count;
@@ -24,10 +24,10 @@ fn lay_text(
     stop: usize,
     row: usize,
 ) -> usize
-    requires known { Known (textHead at (spelling s.now place size stop)) }
+    requires known { Known (text_head at (spelling s.now place size stop)) }
     requires place_le_stop { (place ≤ stop) × (stop ≤ length s.now) × (length s.now ≤ limit) }
     requires row_bound { (row < lent table.old) × (row < limit) }
-    ensures { LeafLaid (textHead at (spelling s.now place size stop)) s.now table.old row table.new result }
+    ensures { LeafLaid (text_head at (spelling s.now place size stop)) s.now table.old row table.new result }
 {
     rows::lay(table, row, Row::text(row, place, size));
     place + size
@@ -43,10 +43,10 @@ fn lay_binary(
     stop: usize,
     row: usize,
 ) -> usize
-    requires known { Known (bodied at (Span kindBinary place size) place size stop) }
+    requires known { Known (bodied at (Span kind_binary place size) place size stop) }
     requires place_le_stop { (place ≤ stop) × (stop ≤ length s.now) × (length s.now ≤ limit) }
     requires row_bound { (row < lent table.old) × (row < limit) }
-    ensures { LeafLaid (bodied at (Span kindBinary place size) place size stop) s.now table.old row table.new result }
+    ensures { LeafLaid (bodied at (Span kind_binary place size) place size stop) s.now table.old row table.new result }
 {
     rows::lay(table, row, Row::binary(row, place, size));
     place + size
@@ -62,10 +62,10 @@ fn lay_integer(
     signed: bool,
     row: usize,
 ) -> usize
-    requires known { Known (integerHead at stop rank signed) }
+    requires known { Known (integer_head at stop rank signed) }
     requires at_lt_stop { (at < stop) × (stop ≤ length s.now) × (length s.now ≤ limit) × (rank < 8) }
     requires row_bound { (row < lent table.old) × (row < limit) }
-    ensures { LeafLaid (integerHead at stop rank signed) s.now table.old row table.new result }
+    ensures { LeafLaid (integer_head at stop rank signed) s.now table.old row table.new result }
 {
     let place = at + 1;
     let size = size_at(rank);
@@ -77,10 +77,10 @@ fn lay_integer(
 
 // An integer that its marker alone is.
 fn lay_small(table: &mut [u32], s: &[u8], at: usize, stop: usize, marker: u8, row: usize) -> usize
-    requires at_value { Leaf (Small marker) (at + 1) ≡ headAt s.now at stop }
+    requires at_value { Leaf (Small marker) (at + 1) ≡ head_at s.now at stop }
     requires at_in_bounds { (at < length s.now) × (length s.now ≤ limit) }
     requires row_bound { (row < lent table.old) × (row < limit) }
-    ensures { LeafLaid (headAt s.now at stop) s.now table.old row table.new result }
+    ensures { LeafLaid (head_at s.now at stop) s.now table.old row table.new result }
 {
     let w = wide::integer::small(marker);
     rows::lay(table, row, integer_row(Row::SMALL, row, w));
@@ -89,10 +89,10 @@ fn lay_small(table: &mut [u32], s: &[u8], at: usize, stop: usize, marker: u8, ro
 
 // False, true or none: the marker alone.
 fn lay_constant(table: &mut [u32], s: &[u8], at: usize, stop: usize, kind: u32, row: usize) -> usize
-    requires at_value { Leaf (Constant kind) (at + 1) ≡ headAt s.now at stop }
+    requires at_value { Leaf (Constant kind) (at + 1) ≡ head_at s.now at stop }
     requires at_in_bounds { (at < length s.now) × (length s.now ≤ limit) }
     requires row_bound { (row < lent table.old) × (row < limit) }
-    ensures { LeafLaid (headAt s.now at stop) s.now table.old row table.new result }
+    ensures { LeafLaid (head_at s.now at stop) s.now table.old row table.new result }
 {
     rows::lay(table, row, Row::leaf(kind, row, 0, 0, 0, 0));
     at + 1
@@ -100,10 +100,10 @@ fn lay_constant(table: &mut [u32], s: &[u8], at: usize, stop: usize, kind: u32, 
 
 // A text whose length stands behind the marker.
 fn lay_long_text(table: &mut [u32], s: &[u8], at: usize, stop: usize, row: usize) -> usize
-    requires known { Known (textHead at (spellingOf s.now stop (countAt keyLength s.now (at + 1) stop))) }
+    requires known { Known (text_head at (spelling_of s.now stop (count_at key_length s.now (at + 1) stop))) }
     requires at_lt_stop { (at < stop) × (stop ≤ length s.now) × (length s.now ≤ limit) }
     requires row_bound { (row < lent table.old) × (row < limit) }
-    ensures { LeafLaid (textHead at (spellingOf s.now stop (countAt keyLength s.now (at + 1) stop))) s.now table.old row table.new result }
+    ensures { LeafLaid (text_head at (spelling_of s.now stop (count_at key_length s.now (at + 1) stop))) s.now table.old row table.new result }
 {
     let c = heads::length_at(s, at + 1, stop);
     match c {
@@ -114,10 +114,10 @@ fn lay_long_text(table: &mut [u32], s: &[u8], at: usize, stop: usize, row: usize
 
 // A binary whose length stands behind the marker.
 fn lay_long_binary(table: &mut [u32], s: &[u8], at: usize, stop: usize, row: usize) -> usize
-    requires known { Known (binaryHead at stop (countAt keyLength s.now (at + 1) stop)) }
+    requires known { Known (binary_head at stop (count_at key_length s.now (at + 1) stop)) }
     requires at_lt_stop { (at < stop) × (stop ≤ length s.now) × (length s.now ≤ limit) }
     requires row_bound { (row < lent table.old) × (row < limit) }
-    ensures { LeafLaid (binaryHead at stop (countAt keyLength s.now (at + 1) stop)) s.now table.old row table.new result }
+    ensures { LeafLaid (binary_head at stop (count_at key_length s.now (at + 1) stop)) s.now table.old row table.new result }
 {
     let c = heads::length_at(s, at + 1, stop);
     match c {
@@ -128,10 +128,10 @@ fn lay_long_binary(table: &mut [u32], s: &[u8], at: usize, stop: usize, row: usi
 
 // The leaf at `at`; or 0 where it is of another form or no leaf stands there, and nothing is laid.
 pub fn lay_plain(table: &mut [u32], s: &[u8], at: usize, stop: usize, row: usize) -> usize
-    requires known { Known (headAt s.now at stop) }
+    requires known { Known (head_at s.now at stop) }
     requires at_lt_stop { (at < stop) × (stop ≤ length s.now) × (length s.now ≤ limit) }
     requires row_bound { (row < lent table.old) × (row < limit) }
-    ensures { LeafTried (headAt s.now at stop) s.now table.old row table.new result }
+    ensures { LeafTried (head_at s.now at stop) s.now table.old row table.new result }
 {
     let marker = s[at];
     let b = heads::index(marker);

@@ -8,7 +8,7 @@ use mathlib.Core.List.{List, [], ◌∷◌, ◌++◌, append-nil, append_assoc}
 use lib.ListN.{length, get_or, set, take, drop, replicate, length-set, length-take, length-append, length-replicate}
 use lib.Seq.{sets, length-sets, take_all, take-suc-set, append_snoc}
 use Rattle.lists.specs.Zeroed.{zeroed}
-use Rattle.lists.proofs.Sets.{sets-cons, sets-out, sets-whole, take-sets-at}
+use Rattle.lists.proofs.Sets.{sets_cons, sets_out, sets_whole, take_sets_at}
 
 pub length-zeroed : (from : ℕ) (l : List ℕ) → length (zeroed from l) ≡ length l
 unfolding zeroed
@@ -29,9 +29,9 @@ unfolding zeroed
 zeroed-all l = rw sub-zero
 
 -- from the end on nothing changes
-pub zeroed-out : (from : ℕ) (l : List ℕ) → length l ≤ from → zeroed from l ≡ l
+pub zeroed_out : (from : ℕ) (l : List ℕ) → length l ≤ from → zeroed from l ≡ l
 unfolding zeroed
-zeroed-out from l h =
+zeroed_out from l h =
     let e : length l - from ≡ 0 = omega arith in
     rw (e, take_all from l h) (append-nil l)
 
@@ -49,11 +49,11 @@ take-zeroed (suc n) zero l h = absurd (omega arith)
 take-zeroed (suc n) (suc from) [] h = rw zeroed-nil
 take-zeroed (suc n) (suc from) (x ∷ l) h = rw (zeroed-cons, take-zeroed n from l (omega arith))
 
-pub getD-zeroed-before : (from : ℕ) (l : List ℕ) (j : ℕ) → j < from → get_or (zeroed from l) j 0 ≡ get_or l j 0
-getD-zeroed-before zero l j h = absurd (omega arith)
-getD-zeroed-before (suc from) [] j h = rw zeroed-nil
-getD-zeroed-before (suc from) (x ∷ l) zero h = rw zeroed-cons
-getD-zeroed-before (suc from) (x ∷ l) (suc j) h = rw zeroed-cons (getD-zeroed-before from l j (omega arith))
+pub get_or-zeroed-before : (from : ℕ) (l : List ℕ) (j : ℕ) → j < from → get_or (zeroed from l) j 0 ≡ get_or l j 0
+get_or-zeroed-before zero l j h = absurd (omega arith)
+get_or-zeroed-before (suc from) [] j h = rw zeroed-nil
+get_or-zeroed-before (suc from) (x ∷ l) zero h = rw zeroed-cons
+get_or-zeroed-before (suc from) (x ∷ l) (suc j) h = rw zeroed-cons (get_or-zeroed-before from l j (omega arith))
 
 -- those from it on are 0
 pub drop-zeroed : (from : ℕ) (l : List ℕ) → drop from (zeroed from l) ≡ replicate (length l - from) 0
@@ -61,28 +61,28 @@ drop-zeroed zero l = zeroed-all l ∙ rw sub-zero
 drop-zeroed (suc from) [] = rw (zeroed-nil, zero-sub)
 drop-zeroed (suc from) (x ∷ l) = rw (zeroed-cons, suc-sub-suc) (drop-zeroed from l)
 
-getD-zeros : (n j : ℕ) → ◌≡◌ {A = ℕ} (get_or (replicate n 0) j 0) 0
-getD-zeros zero j = refl
-getD-zeros (suc n) zero = refl
-getD-zeros (suc n) (suc j) = getD-zeros n j
+get_or-zeros : (n j : ℕ) → ◌≡◌ {A = ℕ} (get_or (replicate n 0) j 0) 0
+get_or-zeros zero j = refl
+get_or-zeros (suc n) zero = refl
+get_or-zeros (suc n) (suc j) = get_or-zeros n j
 
-pub getD-zeroed-behind : (from : ℕ) (l : List ℕ) (j : ℕ) → from ≤ j → get_or (zeroed from l) j 0 ≡ 0
-getD-zeroed-behind zero l j h = rw zeroed-all (getD-zeros (length l) j)
-getD-zeroed-behind (suc from) [] j h = rw zeroed-nil
-getD-zeroed-behind (suc from) (x ∷ l) zero h = absurd (omega arith)
-getD-zeroed-behind (suc from) (x ∷ l) (suc j) h = rw zeroed-cons (getD-zeroed-behind from l j (omega arith))
+pub get_or-zeroed-behind : (from : ℕ) (l : List ℕ) (j : ℕ) → from ≤ j → get_or (zeroed from l) j 0 ≡ 0
+get_or-zeroed-behind zero l j h = rw zeroed-all (get_or-zeros (length l) j)
+get_or-zeroed-behind (suc from) [] j h = rw zeroed-nil
+get_or-zeroed-behind (suc from) (x ∷ l) zero h = absurd (omega arith)
+get_or-zeroed-behind (suc from) (x ∷ l) (suc j) h = rw zeroed-cons (get_or-zeroed-behind from l j (omega arith))
 
 -- what was laid stays, and what is behind it is 0
-pub zeroed-sets : (l : List ℕ) (i : ℕ) (vs : List ℕ) → i + length vs ≤ length l
+pub zeroed_sets : (l : List ℕ) (i : ℕ) (vs : List ℕ) → i + length vs ≤ length l
     → zeroed (i + length vs) (sets l i vs) ≡ take i l ++ (vs ++ replicate (length l - (i + length vs)) 0)
 unfolding zeroed
-zeroed-sets l i vs h = rw (take-sets-at l i vs h, length-sets) (append_assoc (take i l) vs (replicate (length l - (i + length vs)) 0))
+zeroed_sets l i vs h = rw (take_sets_at l i vs h, length-sets) (append_assoc (take i l) vs (replicate (length l - (i + length vs)) 0))
 
 pub zeroed-front : (l vs : List ℕ) → length vs ≤ length l → zeroed (length vs) (sets l 0 vs) ≡ vs ++ replicate (length l - length vs) 0
-zeroed-front l vs h = rw zero-add at (zeroed-sets l 0 vs (omega arith))
+zeroed-front l vs h = rw zero-add at (zeroed_sets l 0 vs (omega arith))
 
 -- zeroing is laying zeros
 pub zeroed-zeros : (from : ℕ) (l : List ℕ) → zeroed from l ≡ sets l from (replicate (length l - from) 0)
-zeroed-zeros zero l = rw (zeroed-all, sub-zero) (sym (sets-whole l (replicate (length l) 0) (length-replicate (length l) 0)))
-zeroed-zeros (suc from) [] = zeroed-nil (suc from) ∙ sym (sets-out [] (suc from) (replicate (0 - suc from) 0) (omega arith))
-zeroed-zeros (suc from) (x ∷ l) = rw (zeroed-cons, suc-sub-suc, zeroed-zeros from l) (sym (sets-cons x l from (replicate (length l - from) 0)))
+zeroed-zeros zero l = rw (zeroed-all, sub-zero) (sym (sets_whole l (replicate (length l) 0) (length-replicate (length l) 0)))
+zeroed-zeros (suc from) [] = zeroed-nil (suc from) ∙ sym (sets_out [] (suc from) (replicate (0 - suc from) 0) (omega arith))
+zeroed-zeros (suc from) (x ∷ l) = rw (zeroed-cons, suc-sub-suc, zeroed-zeros from l) (sym (sets_cons x l from (replicate (length l - from) 0)))

@@ -3,7 +3,7 @@ ghost use Rattle.std.specs.Prelude.{◌≡◌, ◌≤◌, length};
 ghost use Rattle.rows.specs.Table.{limit};
 ghost use Rattle.format.specs.Head.{key_at};
 ghost use Rattle.format.specs.Value.{keyed};
-ghost use Rattle.measure.specs.Contracts.{measuredOf, told};
+ghost use Rattle.measure.specs.Inner.{measured_of, told};
 
 use crate::told::{right, wrong};
 use format::Spelling;
@@ -11,7 +11,7 @@ use format::Spelling;
 // A record's key at `at`.
 pub fn measure_key(s: &[u8], at: usize, stop: usize) -> usize
     requires { (at ≤ stop) × (stop ≤ length s.now) × (length s.now ≤ limit) }
-    ensures { result ≡ told (measuredOf (keyed at (key_at s.now at stop))) }
+    ensures { result ≡ told (measured_of (keyed at (key_at s.now at stop))) }
 {
     let x = heads::key_at(s, at, stop);
     match x {

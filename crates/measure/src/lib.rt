@@ -2,8 +2,8 @@
 ghost use Rattle.std.specs.Prelude.{◌≡◌, ◌≤◌, length};
 ghost use Rattle.rows.specs.Table.{limit};
 ghost use Rattle.format.specs.Value.{value, whole, document};
-ghost use Rattle.format.specs.Answer.{depthLimit, needed};
-ghost use Rattle.measure.specs.Contracts.{measuredOf, told};
+ghost use Rattle.format.specs.Answer.{depth_limit, needed};
+ghost use Rattle.measure.specs.Inner.{measured_of, told};
 
 mod key;
 mod plain;
@@ -18,22 +18,22 @@ use value::measure_value;
 // All the bytes from `at` to `stop`, as of a document or of a foreign body: one value position, and nothing behind it.
 pub fn measure_whole(s: &[u8], at: usize, stop: usize, levels: usize, around: usize) -> usize
     requires { (at ≤ stop) × (stop ≤ length s.now) × (length s.now ≤ limit) }
-    ensures { result ≡ told (measuredOf (whole stop (value levels s.now around at stop))) }
+    ensures { result ≡ told (measured_of (whole stop (value levels s.now around at stop))) }
 {
     told::ended(measure_value(s, at, stop, levels, around), stop)
 }
 
 // A whole document whose positions nest to `depth`.
 pub fn measure_document(s: &[u8], depth: usize) -> usize
-    requires { (depth ≤ depthLimit) × (length s.now ≤ limit) }
-    ensures { result ≡ told (measuredOf (document depth s.now)) }
+    requires { (depth ≤ depth_limit) × (length s.now ≤ limit) }
+    ensures { result ≡ told (measured_of (document depth s.now)) }
 {
     measure_whole(s, 0, s.len(), depth + 1, 0)
 }
 
 // The same for a caller who is told by name.
 fn measure_within(data: &[u8], depth: usize) -> Needed
-    requires { depth ≤ depthLimit }
+    requires { depth ≤ depth_limit }
     ensures { result ≡ needed depth «data».now }
 {
     if Row::LIMIT < data.len() {
@@ -53,7 +53,7 @@ fn measure_within(data: &[u8], depth: usize) -> Needed
 
 // Measures a document: the rows that it needs, or what is wrong with it and where.
 pub fn measure(data: &[u8]) -> Needed
-    ensures { result ≡ needed depthLimit «data».now }
+    ensures { result ≡ needed depth_limit «data».now }
 {
     measure_within(data, format::DEPTH_LIMIT)
 }

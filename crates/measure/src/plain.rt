@@ -2,16 +2,16 @@
 // none.
 ghost use Rattle.std.specs.Prelude.{◌≤◌, length};
 ghost use Rattle.rows.specs.Table.{limit};
-ghost use Rattle.format.specs.Head.{headAt};
+ghost use Rattle.format.specs.Head.{head_at};
 ghost use Rattle.format.specs.Value.{child, value};
-ghost use Rattle.measure.specs.Contracts.{ReferAsked, OneRow};
+ghost use Rattle.measure.specs.Inner.{ReferAsked, OneRow};
 
 use format::Children;
 
 // A reference whose marker tells its number, where `around` entries are in force.
 fn end_reference(s: &[u8], at: usize, stop: usize, around: usize) -> usize
     requires { (at ≤ stop) × (stop ≤ length s.now) × (length s.now ≤ limit) }
-    ensures { ReferAsked (headAt s.now at stop) around result }
+    ensures { ReferAsked (head_at s.now at stop) around result }
 {
     if stop <= at {
         return 0;

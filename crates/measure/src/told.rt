@@ -1,7 +1,7 @@
 // What is measured, in one number: an answer of several would go through memory at every position.
 ghost use Rattle.std.specs.Prelude.{◌≡◌, ◌||◌, ◌≤◌};
 ghost use Rattle.rows.specs.Table.{limit};
-ghost use Rattle.measure.specs.Contracts.{placeAndRow, place_in, row_in, isBroken, placeWrong, numberWrong, refusalOf, endedAt, Right, Wrong, told};
+ghost use Rattle.measure.specs.Inner.{place_and_row, place_in, row_in, is_broken, place_wrong, number_wrong, refusal_of, ended_at, Right, Wrong, told};
 
 use format::Refusal;
 
@@ -11,7 +11,7 @@ pub const WRONG: usize = 0x100000000000000;
 // A place, and a row or so many rows.
 pub fn place_and_row(next: usize, row: usize) -> usize
     requires { (next ≤ limit) × (row ≤ limit) }
-    ensures { result ≡ placeAndRow next row }
+    ensures { result ≡ place_and_row next row }
 {
     next + 0x1000000 * row
 }
@@ -44,7 +44,7 @@ pub fn right(rows: usize, next: usize, broken: bool) -> usize
 
 // Whether one of its foreign documents is damaged.
 pub fn is_broken(f: usize) -> bool
-    ensures { result ≡ isBroken f }
+    ensures { result ≡ is_broken f }
 {
     0x1000000000000 <= f
 }
@@ -69,14 +69,14 @@ pub fn wrong(why: Refusal, place: usize) -> usize
 
 // Its number.
 pub fn number_in(f: usize) -> u32
-    ensures { result ≡ numberWrong f }
+    ensures { result ≡ number_wrong f }
 {
     (f / WRONG) as u32
 }
 
 // The refusal that has the number n.
 fn refusal_of(n: usize) -> Refusal
-    ensures { result ≡ refusalOf n }
+    ensures { result ≡ refusal_of n }
 {
     if n == 2 {
         return Refusal::Short;
@@ -107,21 +107,21 @@ fn refusal_of(n: usize) -> Refusal
 
 // The refusal itself.
 pub fn why_in(f: usize) -> Refusal
-    ensures { result ≡ refusalOf (numberWrong f) }
+    ensures { result ≡ refusal_of (number_wrong f) }
 {
     refusal_of(f / WRONG)
 }
 
 // Its place.
 pub fn wrong_place(f: usize) -> usize
-    ensures { result ≡ placeWrong f }
+    ensures { result ≡ place_wrong f }
 {
     f % WRONG
 }
 
 // What a value position makes of all the bytes up to `stop`: none may stand behind it.
 pub fn ended(f: usize, stop: usize) -> usize
-    ensures { result ≡ endedAt stop f }
+    ensures { result ≡ ended_at stop f }
 {
     if WRONG <= f {
         return f;

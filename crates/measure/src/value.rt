@@ -1,10 +1,10 @@
 // Value reading calls child reading, which calls value reading again, the levels left falling at each round.
 ghost use Rattle.std.specs.Prelude.{◌≡◌, ◌+◌, ◌≤◌, ◌<◌, length};
 ghost use Rattle.rows.specs.Table.{limit};
-ghost use Rattle.rows.specs.Kinds.{holderOwn};
+ghost use Rattle.rows.specs.Kinds.{holder_own};
 ghost use Rattle.format.specs.declared.head.Children.TheVariants.{Entries};
-ghost use Rattle.format.specs.Value.{kind_of, childCount, childrenOf, child, readings, holding, declaring, whole, inForeign, framed, value};
-ghost use Rattle.measure.specs.Contracts.{measuredOf, measuredAll, told};
+ghost use Rattle.format.specs.Value.{kind_of, child_count, children_of, child, readings, holding, declaring, whole, in_foreign, framed, value};
+ghost use Rattle.measure.specs.Inner.{measured_of, measured_all, told};
 
 use crate::key::measure_key;
 use crate::plain::end_child;
@@ -12,10 +12,10 @@ use crate::told::{WRONG, either, ended, is_broken, place_in, right, row_in, wron
 use format::{Children, Head, Holder, Refusal};
 
 // One value position; `levels` are left, its own with them, and `around` entries are in force.
-#[cycle(measure_child_measure_children_measure_declared_measure_framed_measure_hold_measure_value)]
+#[cycle(measuring)]
 pub fn measure_value(s: &[u8], at: usize, stop: usize, levels: usize, around: usize) -> usize
     requires { (at ≤ stop) × (stop ≤ length s.now) × (length s.now ≤ limit) }
-    ensures { result ≡ told (measuredOf (value levels s.now around at stop)) }
+    ensures { result ≡ told (measured_of (value levels s.now around at stop)) }
 {
     if levels == 0 {
         return wrong(Refusal::Deep, at);
@@ -41,7 +41,7 @@ pub fn measure_value(s: &[u8], at: usize, stop: usize, levels: usize, around: us
 }
 
 // A holder's children stand at `at`.
-#[cycle(measure_child_measure_children_measure_declared_measure_framed_measure_hold_measure_value)]
+#[cycle(measuring)]
 fn measure_hold(
     s: &[u8],
     at: usize,
@@ -52,7 +52,7 @@ fn measure_hold(
     count: usize,
 ) -> usize
     requires { (0 < at) × (at ≤ stop) × (stop ≤ length s.now) × (length s.now ≤ limit) × (count ≤ limit) }
-    ensures { result ≡ told (measuredOf (holding (holderOwn (kind_of holder) count) (readings (value levels s.now) (childrenOf holder) s.now around 0 (childCount holder count) at stop))) }
+    ensures { result ≡ told (measured_of (holding (holder_own (kind_of holder) count) (readings (value levels s.now) (children_of holder) s.now around 0 (child_count holder count) at stop))) }
 {
     let n = holder.children(count);
     let f = measure_children(s, at, stop, levels, around, holder.reading(), n);
@@ -63,10 +63,10 @@ fn measure_hold(
 }
 
 // A declaration's entries stand at `at`, and its value behind them.
-#[cycle(measure_child_measure_children_measure_declared_measure_framed_measure_hold_measure_value)]
+#[cycle(measuring)]
 fn measure_declared(s: &[u8], at: usize, stop: usize, levels: usize, count: usize) -> usize
     requires { (0 < at) × (at ≤ stop) × (stop ≤ length s.now) × (length s.now ≤ limit) }
-    ensures { result ≡ told (measuredOf (declaring count (readings (value levels s.now) Entries s.now 0 0 count at stop) (value levels s.now) stop)) }
+    ensures { result ≡ told (measured_of (declaring count (readings (value levels s.now) Entries s.now 0 0 count at stop) (value levels s.now) stop)) }
 {
     let es = measure_children(s, at, stop, levels, 0, Children::Entries, count);
     if WRONG <= es {
@@ -81,10 +81,10 @@ fn measure_declared(s: &[u8], at: usize, stop: usize, levels: usize, count: usiz
 }
 
 // A foreign body of `size` bytes stands at `place`: right or damaged, it is read once.
-#[cycle(measure_child_measure_children_measure_declared_measure_framed_measure_hold_measure_value)]
+#[cycle(measuring)]
 fn measure_framed(s: &[u8], place: usize, size: usize, levels: usize, around: usize) -> usize
     requires { (0 < place) × (place + size ≤ length s.now) × (length s.now ≤ limit) }
-    ensures { result ≡ told (measuredOf (framed place size (whole (place + size) (value levels s.now (inForeign around) place (place + size))))) }
+    ensures { result ≡ told (measured_of (framed place size (whole (place + size) (value levels s.now (in_foreign around) place (place + size))))) }
 {
     let end = place + size;
     let inside = format::in_foreign(around);
@@ -96,7 +96,7 @@ fn measure_framed(s: &[u8], place: usize, size: usize, levels: usize, around: us
 }
 
 // Child number i of a holder.
-#[cycle(measure_child_measure_children_measure_declared_measure_framed_measure_hold_measure_value)]
+#[cycle(measuring)]
 fn measure_child(
     s: &[u8],
     at: usize,
@@ -107,7 +107,7 @@ fn measure_child(
     i: usize,
 ) -> usize
     requires { (at ≤ stop) × (stop ≤ length s.now) × (length s.now ≤ limit) }
-    ensures { result ≡ told (measuredOf (child children (value levels s.now) s.now around i at stop)) }
+    ensures { result ≡ told (measured_of (child children (value levels s.now) s.now around i at stop)) }
 {
     if children.is_key(i) {
         return measure_key(s, at, stop);
@@ -116,7 +116,7 @@ fn measure_child(
 }
 
 // count children, back to back.
-#[cycle(measure_child_measure_children_measure_declared_measure_framed_measure_hold_measure_value)]
+#[cycle(measuring)]
 fn measure_children(
     s: &[u8],
     at: usize,
@@ -127,7 +127,7 @@ fn measure_children(
     count: usize,
 ) -> usize
     requires { (at ≤ stop) × (stop ≤ length s.now) × (length s.now ≤ limit) }
-    ensures { result ≡ told (measuredAll (readings (value levels s.now) children s.now around 0 count at stop)) }
+    ensures { result ≡ told (measured_all (readings (value levels s.now) children s.now around 0 count at stop)) }
 {
     let mut i = 0;
     let mut rows = 0;

@@ -12,43 +12,43 @@ use Rattle.walker.specs.declared.step.Step.{Step}
 use Rattle.walker.specs.declared.step.Step.TheVariants.{BadTable}
 use Rattle.resolve.specs.declared.resolved.Resolved.{Resolved}
 use Rattle.payload.specs.declared.part.Part.{Part}
-use Rattle.packing.specs.Packed.{packedNeeded, packedAnswer, packedChecked, packedWritten, packedCoded, packedStep, within, listAfter, resolvedWords, packedResolved, partWords, packedPart, readWords, packedRead}
+use Rattle.packing.specs.Packed.{packed_needed, packed_answer, packed_checked, packed_written, packed_coded, packed_step, within, list_after, resolved_words, packed_resolved, part_words, packed_part, read_words, packed_read}
 
-pub needed-same : (a x : Needed) (r : ℕ) → a ≡ x → r ≡ packedNeeded a → r ≡ packedNeeded x
-needed-same a x r e f = cc
+pub needed_same : (a x : Needed) (r : ℕ) → a ≡ x → r ≡ packed_needed a → r ≡ packed_needed x
+needed_same a x r e f = cc
 
-pub answer-same : (a x : Answer) (r : ℕ) → a ≡ x → r ≡ packedAnswer a → r ≡ packedAnswer x
-answer-same a x r e f = cc
+pub answer_same : (a x : Answer) (r : ℕ) → a ≡ x → r ≡ packed_answer a → r ≡ packed_answer x
+answer_same a x r e f = cc
 
-pub checked-same : (a x : Checked) (r : ℕ) → a ≡ x → r ≡ packedChecked a → r ≡ packedChecked x
-checked-same a x r e f = cc
+pub checked_same : (a x : Checked) (r : ℕ) → a ≡ x → r ≡ packed_checked a → r ≡ packed_checked x
+checked_same a x r e f = cc
 
-pub written_same : (a x : Written) (r : ℕ) → a ≡ x → r ≡ packedWritten a → r ≡ packedWritten x
+pub written_same : (a x : Written) (r : ℕ) → a ≡ x → r ≡ packed_written a → r ≡ packed_written x
 written_same a x r e f = cc
 
-pub coded-same : (a x : Coded) (r : ℕ) → a ≡ x → r ≡ packedCoded a → r ≡ packedCoded x
-coded-same a x r e f = cc
+pub coded_same : (a x : Coded) (r : ℕ) → a ≡ x → r ≡ packed_coded a → r ≡ packed_coded x
+coded_same a x r e f = cc
 
-pub step_same : (n : ℕ) (a x : Step) (r : ℕ) → a ≡ x → r ≡ packedStep (within n a BadTable) → r ≡ packedStep (within n x BadTable)
+pub step_same : (n : ℕ) (a x : Step) (r : ℕ) → a ≡ x → r ≡ packed_step (within n a BadTable) → r ≡ packed_step (within n x BadTable)
 step_same n a x r e f = cc
 
 module _ (a x : Resolved) (out : List ℕ) (is : a ≡ x) where
-  pub resolved-same : (r : ℕ) → r ≡ packedResolved a out → r ≡ packedResolved x out
-  resolved-same r e = cc
+  pub resolved_same : (r : ℕ) → r ≡ packed_resolved a out → r ≡ packed_resolved x out
+  resolved_same r e = cc
 
-  pub resolved-list : (after : List ℕ) → after ≡ listAfter (resolvedWords a) out → after ≡ listAfter (resolvedWords x) out
-  resolved-list after e = cc
+  pub resolved_list : (after : List ℕ) → after ≡ list_after (resolved_words a) out → after ≡ list_after (resolved_words x) out
+  resolved_list after e = cc
 
 module _ (a x : Part) (out : List ℕ) (is : a ≡ x) where
-  pub part_same : (r : ℕ) → r ≡ packedPart a out → r ≡ packedPart x out
+  pub part_same : (r : ℕ) → r ≡ packed_part a out → r ≡ packed_part x out
   part_same r e = cc
 
-  pub part-list : (after : List ℕ) → after ≡ listAfter (partWords a) out → after ≡ listAfter (partWords x) out
-  part-list after e = cc
+  pub part_list : (after : List ℕ) → after ≡ list_after (part_words a) out → after ≡ list_after (part_words x) out
+  part_list after e = cc
 
 module _ (a x : Read) (out : List ℕ) (is : a ≡ x) where
-  pub read_same : (r : ℕ) → r ≡ packedRead a out → r ≡ packedRead x out
+  pub read_same : (r : ℕ) → r ≡ packed_read a out → r ≡ packed_read x out
   read_same r e = cc
 
-  pub read-list : (after : List ℕ) → after ≡ listAfter (readWords a) out → after ≡ listAfter (readWords x) out
-  read-list after e = cc
+  pub read_list : (after : List ℕ) → after ≡ list_after (read_words a) out → after ≡ list_after (read_words x) out
+  read_list after e = cc

@@ -2,11 +2,11 @@
 use mathlib.Core.Path.{◌≡◌, sym, ap, ◌∙◌}
 use Prim.Native.Nat.{ℕ, ◌/◌, ◌%◌, ◌^◌, ◌<◌}
 use Rattle.walker.specs.declared.step.Step.{Step}
-use Rattle.walker.specs.Walk.{stepNumber, stepStanding}
-use Rattle.packing.specs.Packed.{packed, packedStanding, packedStep}
-use Rattle.packing.specs.Contracts.{LowStep}
-use Rattle.packing.proofs.Packs.{packed-number, packed-beside, standing-row, standing-bound}
-use Rattle.packing.proofs.Widths.{standing-packs}
+use Rattle.walker.specs.Walk.{step_number, step_standing}
+use Rattle.packing.specs.Packed.{packed, packed_standing, packed_step}
+use Rattle.packing.specs.Inner.{LowStep}
+use Rattle.packing.proofs.Packs.{packed-number, packed_beside, standing-row, standing_bound}
+use Rattle.packing.proofs.Widths.{standing_packs}
 
 -- the top 8 bits are the number, the low 56 the number beside it
 pub record Unpacks (r number beside : ℕ) : Type 0 where
@@ -14,23 +14,23 @@ pub record Unpacks (r number beside : ℕ) : Type 0 where
   pub low : r % 2 ^ 56 ≡ beside
 
 pub unpacks : (number beside : ℕ) → beside < 2 ^ 56 → Unpacks (packed number beside) number beside
-unpacks number beside h = record { top = packed-number number beside h; low = packed-beside number beside h }
+unpacks number beside h = record { top = packed-number number beside h; low = packed_beside number beside h }
 
 -- a step's row and bound too
 pub record Steps (r : ℕ) (s : Step) : Type 0 where
-  pub number : r / 2 ^ 56 ≡ stepNumber s
-  pub row : r % 2 ^ 56 / 2 ^ 32 ≡ (stepStanding s).row
-  pub bound : r % 2 ^ 56 % 2 ^ 32 ≡ (stepStanding s).bound
+  pub number : r / 2 ^ 56 ≡ step_number s
+  pub row : r % 2 ^ 56 / 2 ^ 32 ≡ (step_standing s).row
+  pub bound : r % 2 ^ 56 % 2 ^ 32 ≡ (step_standing s).bound
 
-pub steps : (s : Step) → LowStep s → Steps (packedStep s) s
-unfolding packedStep
+pub steps : (s : Step) → LowStep s → Steps (packed_step s) s
+unfolding packed_step
 steps s l =
-    let h : packedStanding (stepStanding s) < 2 ^ 56 = standing-packs s l in
-    let e : packed (stepNumber s) (packedStanding (stepStanding s)) % 2 ^ 56 ≡ packedStanding (stepStanding s) = packed-beside _ _ h in
+    let h : packed_standing (step_standing s) < 2 ^ 56 = standing_packs s l in
+    let e : packed (step_number s) (packed_standing (step_standing s)) % 2 ^ 56 ≡ packed_standing (step_standing s) = packed_beside _ _ h in
     record {
       number = packed-number _ _ h;
-      row = ap (λ (x : ℕ). x / 2 ^ 32) e ∙ standing-row (stepStanding s) l.bound-low;
-      bound = ap (λ (x : ℕ). x % 2 ^ 32) e ∙ standing-bound (stepStanding s) l.bound-low;
+      row = ap (λ (x : ℕ). x / 2 ^ 32) e ∙ standing-row (step_standing s) l.bound_low;
+      bound = ap (λ (x : ℕ). x % 2 ^ 32) e ∙ standing_bound (step_standing s) l.bound_low;
     }
 
 -- packed alike
@@ -38,5 +38,5 @@ module _ (n b m c : ℕ) (low : b < 2 ^ 56) (also : c < 2 ^ 56) (same : packed n
   pub one_number : n ≡ m
   one_number = sym (packed-number n b low) ∙ ap (λ (x : ℕ). x / 2 ^ 56) same ∙ packed-number m c also
 
-  pub one-beside : b ≡ c
-  one-beside = sym (packed-beside n b low) ∙ ap (λ (x : ℕ). x % 2 ^ 56) same ∙ packed-beside m c also
+  pub one_beside : b ≡ c
+  one_beside = sym (packed_beside n b low) ∙ ap (λ (x : ℕ). x % 2 ^ 56) same ∙ packed_beside m c also

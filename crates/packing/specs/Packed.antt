@@ -3,48 +3,48 @@ use Rattle.std.specs.Prelude.{ℕ, ◌+◌, ◌*◌, ◌^◌, cond, List, [], �
 use Rattle.std.proofs.lemmas.List.Edits.{sets}
 use Rattle.variable.specs.declared.answer.Read.{Read}
 use Rattle.variable.specs.declared.answer.Written.{Written as Coded}
-use Rattle.variable.specs.Answer.{readNumber, readValue, readUsed, codedNumber, codedBeside}
+use Rattle.variable.specs.Answer.{read_number, read_value, read_used, coded_number, coded_beside}
 use Rattle.rows.specs.Table.{limit}
 use Rattle.format.specs.declared.answer.Answer.{Answer}
 use Rattle.format.specs.declared.needed.Needed.{Needed}
-use Rattle.format.specs.Answer.{answerNumber, answerBeside, neededNumber, neededBeside}
+use Rattle.format.specs.Answer.{answer_number, answer_beside, needed_number, needed_beside}
 use Rattle.checker.specs.declared.checked.Checked.{Checked}
-use Rattle.checker.specs.Checked.{checkedNumber, checkedBeside}
+use Rattle.checker.specs.Checked.{checked_number, checked_beside}
 use Rattle.writer.specs.declared.written.Written.{Written}
-use Rattle.writer.specs.Written.{writtenNumber, writtenBeside}
+use Rattle.writer.specs.Written.{written_number, written_beside}
 use Rattle.walker.specs.declared.standing.Standing.{Standing}
 use Rattle.walker.specs.declared.step.Step.{Step}
 use Rattle.payload.specs.declared.part.Part.{Part}
 use Rattle.resolve.specs.declared.resolved.Resolved.{Resolved}
-use Rattle.walker.specs.Walk.{stepNumber, stepStanding}
-use Rattle.resolve.specs.Resolve.{resolvedNumber, resolvedRow, resolvedBound, resolvedMoves}
+use Rattle.walker.specs.Walk.{step_number, step_standing}
+use Rattle.resolve.specs.Resolve.{resolved_number, resolved_row, resolved_bound, resolved_moves}
 
 -- "A `uint64_t` answer has the paper's number in its top 8 bits and the number beside it in the low 56."
 unfoldable pub packed : ℕ → ℕ → ℕ
 packed number beside = beside + 2 ^ 56 * number
 
 -- measuring, filling, the check, the writer, and writing a variable integer: the paper's number for each answer, and the number beside it
-unfoldable pub packedNeeded : Needed → ℕ
-packedNeeded a = packed (neededNumber a) (neededBeside a)
+unfoldable pub packed_needed : Needed → ℕ
+packed_needed a = packed (needed_number a) (needed_beside a)
 
-unfoldable pub packedAnswer : Answer → ℕ
-packedAnswer a = packed (answerNumber a) (answerBeside a)
+unfoldable pub packed_answer : Answer → ℕ
+packed_answer a = packed (answer_number a) (answer_beside a)
 
-unfoldable pub packedChecked : Checked → ℕ
-packedChecked c = packed (checkedNumber c) (checkedBeside c)
+unfoldable pub packed_checked : Checked → ℕ
+packed_checked c = packed (checked_number c) (checked_beside c)
 
-unfoldable pub packedWritten : Written → ℕ
-packedWritten w = packed (writtenNumber w) (writtenBeside w)
+unfoldable pub packed_written : Written → ℕ
+packed_written w = packed (written_number w) (written_beside w)
 
-unfoldable pub packedCoded : Coded → ℕ
-packedCoded w = packed (codedNumber w) (codedBeside w)
+unfoldable pub packed_coded : Coded → ℕ
+packed_coded w = packed (coded_number w) (coded_beside w)
 
 -- "beside: row << 32 | bound"
-unfoldable pub packedStanding : Standing → ℕ
-packedStanding at = at.row * 2 ^ 32 + at.bound
+unfoldable pub packed_standing : Standing → ℕ
+packed_standing at = at.row * 2 ^ 32 + at.bound
 
-unfoldable pub packedStep : Step → ℕ
-packedStep s = packed (stepNumber s) (packedStanding (stepStanding s))
+unfoldable pub packed_step : Step → ℕ
+packed_step s = packed (step_number s) (packed_standing (step_standing s))
 
 -- Above the bound there are 24 bits for a row. So n above the limit is a bad table for the steps and for resolving; none passes the check.
 unfoldable pub within {ℓ} : {A : Type ℓ} → ℕ → A → A → A
@@ -52,29 +52,29 @@ within n answer bad = cond (leb n limit) answer bad
 
 -- "A lent list shorter than its fixed length (three, two, four) is refused with 13 and the length needed, untouched": the answer, and the list
 -- afterwards, whose front is otherwise `words`
-unfoldable pub lentFor : List ℕ → List ℕ → ℕ → ℕ
-lentFor words out answer = cond (leb (length words) (length out)) answer (packed 13 (length words))
+unfoldable pub lent_for : List ℕ → List ℕ → ℕ → ℕ
+lent_for words out answer = cond (leb (length words) (length out)) answer (packed 13 (length words))
 
-unfoldable pub listAfter : List ℕ → List ℕ → List ℕ
-listAfter words out = cond (leb (length words) (length out)) (sets out 0 words) out
+unfoldable pub list_after : List ℕ → List ℕ → List ℕ
+list_after words out = cond (leb (length words) (length out)) (sets out 0 words) out
 
 -- "out: row, bound, moves; zeros under a refusal"
-unfoldable pub resolvedWords : Resolved → List ℕ
-resolvedWords r = resolvedRow r ∷ resolvedBound r ∷ resolvedMoves r ∷ []
+unfoldable pub resolved_words : Resolved → List ℕ
+resolved_words r = resolved_row r ∷ resolved_bound r ∷ resolved_moves r ∷ []
 
-unfoldable pub packedResolved : Resolved → List ℕ → ℕ
-packedResolved r out = lentFor (resolvedWords r) out (packed (resolvedNumber r) 0)
+unfoldable pub packed_resolved : Resolved → List ℕ → ℕ
+packed_resolved r out = lent_for (resolved_words r) out (packed (resolved_number r) 0)
 
 -- "out: place, size"
-unfoldable pub partWords : Part → List ℕ
-partWords p = p.place ∷ p.size ∷ []
+unfoldable pub part_words : Part → List ℕ
+part_words p = p.place ∷ p.size ∷ []
 
-unfoldable pub packedPart : Part → List ℕ → ℕ
-packedPart p out = lentFor (partWords p) out (packed 0 0)
+unfoldable pub packed_part : Part → List ℕ → ℕ
+packed_part p out = lent_for (part_words p) out (packed 0 0)
 
 -- "four words", low word first; "beside: bytes used"; "too few bytes: 2, value and bytes used 0"
-unfoldable pub readWords : Read → List ℕ
-readWords r = (readValue r).w0 ∷ (readValue r).w1 ∷ (readValue r).w2 ∷ (readValue r).w3 ∷ []
+unfoldable pub read_words : Read → List ℕ
+read_words r = (read_value r).w0 ∷ (read_value r).w1 ∷ (read_value r).w2 ∷ (read_value r).w3 ∷ []
 
-unfoldable pub packedRead : Read → List ℕ → ℕ
-packedRead r out = lentFor (readWords r) out (packed (readNumber r) (readUsed r))
+unfoldable pub packed_read : Read → List ℕ → ℕ
+packed_read r out = lent_for (read_words r) out (packed (read_number r) (read_used r))

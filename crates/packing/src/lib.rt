@@ -2,53 +2,53 @@
 mod pack;
 
 ghost use Rattle.std.specs.Prelude.{◌≡◌, ◌^◌, ◌≤◌, ◌<◌};
-ghost use Rattle.variable.specs.Answer.{readUsed, codedBeside};
+ghost use Rattle.variable.specs.Answer.{read_used, coded_beside};
 ghost use Rattle.rows.specs.Table.{limit};
-ghost use Rattle.format.specs.Answer.{answerBeside, neededBeside};
-ghost use Rattle.checker.specs.Checked.{checkedBeside};
-ghost use Rattle.writer.specs.Written.{writtenBeside};
-ghost use Rattle.packing.specs.Packed.{packedNeeded, packedAnswer, packedChecked, packedWritten, packedCoded, packedStep, within, listAfter, resolvedWords, packedResolved, partWords, packedPart, readWords, packedRead};
-ghost use Rattle.packing.specs.Contracts.{LowStep, SmallResolved, SmallPart};
+ghost use Rattle.format.specs.Answer.{answer_beside, needed_beside};
+ghost use Rattle.checker.specs.Checked.{checked_beside};
+ghost use Rattle.writer.specs.Written.{written_beside};
+ghost use Rattle.packing.specs.Packed.{packed_needed, packed_answer, packed_checked, packed_written, packed_coded, packed_step, within, list_after, resolved_words, packed_resolved, part_words, packed_part, read_words, packed_read};
+ghost use Rattle.packing.specs.Inner.{LowStep, SmallResolved, SmallPart};
 
 use rows::Row;
 use walker::Step;
 
 // What measuring answered.
 pub fn needed(a: format::Needed) -> u64
-    requires { neededBeside a < 2 ^ 56 }
-    ensures { result ≡ packedNeeded a }
+    requires { needed_beside a < 2 ^ 56 }
+    ensures { result ≡ packed_needed a }
 {
     pack::pack(a.number(), a.beside() as u64)
 }
 
 // What filling answered.
 pub fn answer(a: format::Answer) -> u64
-    requires { answerBeside a < 2 ^ 56 }
-    ensures { result ≡ packedAnswer a }
+    requires { answer_beside a < 2 ^ 56 }
+    ensures { result ≡ packed_answer a }
 {
     pack::pack(a.number(), a.beside() as u64)
 }
 
 // What the check answered.
 pub fn checked(a: checker::Checked) -> u64
-    requires { checkedBeside a < 2 ^ 56 }
-    ensures { result ≡ packedChecked a }
+    requires { checked_beside a < 2 ^ 56 }
+    ensures { result ≡ packed_checked a }
 {
     pack::pack(a.number(), a.beside() as u64)
 }
 
 // What the writer answered.
 pub fn written(a: writer::Written) -> u64
-    requires { writtenBeside a < 2 ^ 56 }
-    ensures { result ≡ packedWritten a }
+    requires { written_beside a < 2 ^ 56 }
+    ensures { result ≡ packed_written a }
 {
     pack::pack(a.number(), a.beside())
 }
 
 // What writing a variable integer answered.
 pub fn coded(a: variable::Written) -> u64
-    requires { codedBeside a < 2 ^ 56 }
-    ensures { result ≡ packedCoded a }
+    requires { coded_beside a < 2 ^ 56 }
+    ensures { result ≡ packed_coded a }
 {
     pack::pack(a.number(), a.beside() as u64)
 }
@@ -56,7 +56,7 @@ pub fn coded(a: variable::Written) -> u64
 // What a step over n rows answered: the row in 24 bits, the bound in 32. More rows than the limit are a bad table.
 pub fn step(n: usize, a: Step) -> u64
     requires { n ≤ limit → LowStep a }
-    ensures { result ≡ packedStep (within n a Step.BadTable) }
+    ensures { result ≡ packed_step (within n a Step.BadTable) }
 {
     if Row::LIMIT < n {
         return pack::pack(12, 0);
@@ -68,8 +68,8 @@ pub fn step(n: usize, a: Step) -> u64
 // What resolving answered: row, bound and moves into the lent list.
 pub fn resolved(out: &mut [u32], a: resolve::Resolved) -> u64
     requires { SmallResolved a }
-    ensures value { result ≡ packedResolved a out.old }
-    ensures out_after { out.new ≡ listAfter (resolvedWords a) out.old }
+    ensures value { result ≡ packed_resolved a out.old }
+    ensures out_after { out.new ≡ list_after (resolved_words a) out.old }
 {
     if out.len() < 3 {
         return pack::pack(13, 3);
@@ -83,8 +83,8 @@ pub fn resolved(out: &mut [u32], a: resolve::Resolved) -> u64
 // A payload: its place and its size into the lent list.
 pub fn part(out: &mut [u32], a: payload::Part) -> u64
     requires { SmallPart a }
-    ensures value { result ≡ packedPart a out.old }
-    ensures out_after { out.new ≡ listAfter (partWords a) out.old }
+    ensures value { result ≡ packed_part a out.old }
+    ensures out_after { out.new ≡ list_after (part_words a) out.old }
 {
     if out.len() < 2 {
         return pack::pack(13, 2);
@@ -96,9 +96,9 @@ pub fn part(out: &mut [u32], a: payload::Part) -> u64
 
 // What reading a variable integer answered: its four words into the lent list, the bytes used beside the number.
 pub fn read(out: &mut [u32], a: variable::Read) -> u64
-    requires { readUsed a < 2 ^ 56 }
-    ensures value { result ≡ packedRead a out.old }
-    ensures out_after { out.new ≡ listAfter (readWords a) out.old }
+    requires { read_used a < 2 ^ 56 }
+    ensures value { result ≡ packed_read a out.old }
+    ensures out_after { out.new ≡ list_after (read_words a) out.old }
 {
     if out.len() < 4 {
         return pack::pack(13, 4);

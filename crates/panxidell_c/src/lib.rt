@@ -3,14 +3,14 @@ ghost use Rattle.std.specs.Prelude.{◌≡◌, length};
 ghost use Rattle.wide.specs.Words.{value_of, words};
 ghost use Rattle.wide.specs.Family.{form};
 ghost use Rattle.wide.specs.Members.{signed, unsigned};
-ghost use Rattle.variable.specs.Answer.{read_of, written_of, outputOf};
-ghost use Rattle.format.specs.Answer.{depthLimit, needed, answer, tableAfter};
+ghost use Rattle.variable.specs.Answer.{read_of, written_of, output_of};
+ghost use Rattle.format.specs.Answer.{depth_limit, needed, answer, table_after};
 ghost use Rattle.checker.specs.Checked.{checked};
-ghost use Rattle.writer.specs.Written.{written, outputAfter};
-ghost use Rattle.walker.specs.Walk.{standing, stepIn, stepOn, stepAlong};
+ghost use Rattle.writer.specs.Written.{written, output_after};
+ghost use Rattle.walker.specs.Walk.{standing, step_in, step_on, step_along};
 ghost use Rattle.resolve.specs.Resolve.{resolve};
-ghost use Rattle.payload.specs.Payload.{payloadAt};
-ghost use Rattle.packing.specs.Packed.{packedNeeded, packedAnswer, packedChecked, packedWritten, packedCoded, packedStep, within, listAfter, resolvedWords, packedResolved, partWords, packedPart, readWords, packedRead};
+ghost use Rattle.payload.specs.Payload.{payload_at};
+ghost use Rattle.packing.specs.Packed.{packed_needed, packed_answer, packed_checked, packed_written, packed_coded, packed_step, within, list_after, resolved_words, packed_resolved, part_words, packed_part, read_words, packed_read};
 
 use resolve::Resolved;
 use rows::Row;
@@ -20,7 +20,7 @@ use wide::Wide;
 // How many rows a document needs.
 #[unsafe(no_mangle)]
 pub extern "C" fn panxidell_measure(data: &[u8]) -> u64
-    ensures { result ≡ packedNeeded (needed depthLimit «data».now) }
+    ensures { result ≡ packed_needed (needed depth_limit «data».now) }
 {
     packing::needed(measure::measure(data))
 }
@@ -28,8 +28,8 @@ pub extern "C" fn panxidell_measure(data: &[u8]) -> u64
 // Fills a table from a document.
 #[unsafe(no_mangle)]
 pub extern "C" fn panxidell_fill(data: &[u8], table: &mut [u32]) -> u64
-    ensures value { result ≡ packedAnswer (answer depthLimit «data».now table.old) }
-    ensures table_after { table.new ≡ tableAfter depthLimit «data».now table.old }
+    ensures value { result ≡ packed_answer (answer depth_limit «data».now table.old) }
+    ensures table_after { table.new ≡ table_after depth_limit «data».now table.old }
 {
     packing::answer(reader::fill(data, table))
 }
@@ -37,7 +37,7 @@ pub extern "C" fn panxidell_fill(data: &[u8], table: &mut [u32]) -> u64
 // Whether the first n rows obey the row rules.
 #[unsafe(no_mangle)]
 pub extern "C" fn panxidell_check(table: &[u32], n: usize, data: &[u8]) -> u64
-    ensures { result ≡ packedChecked (checked depthLimit table.now n «data».now) }
+    ensures { result ≡ packed_checked (checked depth_limit table.now n «data».now) }
 {
     packing::checked(checker::check(table, n, data))
 }
@@ -45,8 +45,8 @@ pub extern "C" fn panxidell_check(table: &[u32], n: usize, data: &[u8]) -> u64
 // Writes the document of the first n rows.
 #[unsafe(no_mangle)]
 pub extern "C" fn panxidell_write(table: &[u32], n: usize, data: &[u8], out: &mut [u8]) -> u64
-    ensures value { result ≡ packedWritten (written depthLimit table.now n «data».now (length out.old)) }
-    ensures out_after { out.new ≡ outputAfter depthLimit table.now n «data».now out.old }
+    ensures value { result ≡ packed_written (written depth_limit table.now n «data».now (length out.old)) }
+    ensures out_after { out.new ≡ output_after depth_limit table.now n «data».now out.old }
 {
     packing::written(writer::write(table, n, data, out))
 }
@@ -54,7 +54,7 @@ pub extern "C" fn panxidell_write(table: &[u32], n: usize, data: &[u8], out: &mu
 // In: to the first child.
 #[unsafe(no_mangle)]
 pub extern "C" fn panxidell_in(table: &[u32], n: usize, row: usize, bound: usize) -> u64
-    ensures { result ≡ packedStep (within n (stepIn table.now n (standing row bound)) Step.BadTable) }
+    ensures { result ≡ packed_step (within n (step_in table.now n (standing row bound)) Step.BadTable) }
 {
     packing::step(n, walker::step_in(table, n, Standing { row, bound }))
 }
@@ -62,7 +62,7 @@ pub extern "C" fn panxidell_in(table: &[u32], n: usize, row: usize, bound: usize
 // On: to the next child of the same holder.
 #[unsafe(no_mangle)]
 pub extern "C" fn panxidell_on(table: &[u32], n: usize, row: usize, bound: usize) -> u64
-    ensures { result ≡ packedStep (within n (stepOn table.now n (standing row bound)) Step.BadTable) }
+    ensures { result ≡ packed_step (within n (step_on table.now n (standing row bound)) Step.BadTable) }
 {
     packing::step(n, walker::step_on(table, n, Standing { row, bound }))
 }
@@ -70,7 +70,7 @@ pub extern "C" fn panxidell_on(table: &[u32], n: usize, row: usize, bound: usize
 // Along: to the entry of a reference.
 #[unsafe(no_mangle)]
 pub extern "C" fn panxidell_along(table: &[u32], n: usize, row: usize, bound: usize) -> u64
-    ensures { result ≡ packedStep (within n (stepAlong table.now n (standing row bound)) Step.BadTable) }
+    ensures { result ≡ packed_step (within n (step_along table.now n (standing row bound)) Step.BadTable) }
 {
     packing::step(n, walker::step_along(table, n, Standing { row, bound }))
 }
@@ -88,8 +88,8 @@ fn resolve_within(table: &[u32], n: usize, row: usize) -> Resolved
 // Along references and from declarations to their values: row, bound and moves into the lent list.
 #[unsafe(no_mangle)]
 pub extern "C" fn panxidell_resolve(table: &[u32], n: usize, row: usize, out: &mut [u32]) -> u64
-    ensures value { result ≡ packedResolved (within n (resolve table.now n row) Resolved.BadTable) out.old }
-    ensures out_after { out.new ≡ listAfter (resolvedWords (within n (resolve table.now n row) Resolved.BadTable)) out.old }
+    ensures value { result ≡ packed_resolved (within n (resolve table.now n row) Resolved.BadTable) out.old }
+    ensures out_after { out.new ≡ list_after (resolved_words (within n (resolve table.now n row) Resolved.BadTable)) out.old }
 {
     packing::resolved(out, resolve_within(table, n, row))
 }
@@ -97,8 +97,8 @@ pub extern "C" fn panxidell_resolve(table: &[u32], n: usize, row: usize, out: &m
 // A row's payload: its place and its size into the lent list.
 #[unsafe(no_mangle)]
 pub extern "C" fn panxidell_payload(table: &[u32], row: usize, data: &[u8], out: &mut [u32]) -> u64
-    ensures value { result ≡ packedPart (payloadAt table.now row «data».now) out.old }
-    ensures out_after { out.new ≡ listAfter (partWords (payloadAt table.now row «data».now)) out.old }
+    ensures value { result ≡ packed_part (payload_at table.now row «data».now) out.old }
+    ensures out_after { out.new ≡ list_after (part_words (payload_at table.now row «data».now)) out.old }
 {
     packing::part(out, payload::payload_at(table, row, data))
 }
@@ -106,8 +106,8 @@ pub extern "C" fn panxidell_payload(table: &[u32], row: usize, data: &[u8], out:
 // The unsigned variable integer at the front of `data`.
 #[unsafe(no_mangle)]
 pub extern "C" fn panxidell_read_unsigned(data: &[u8], out: &mut [u32]) -> u64
-    ensures value { result ≡ packedRead (read_of unsigned «data».now) out.old }
-    ensures out_after { out.new ≡ listAfter (readWords (read_of unsigned «data».now)) out.old }
+    ensures value { result ≡ packed_read (read_of unsigned «data».now) out.old }
+    ensures out_after { out.new ≡ list_after (read_words (read_of unsigned «data».now)) out.old }
 {
     packing::read(out, variable::read_unsigned(data))
 }
@@ -115,8 +115,8 @@ pub extern "C" fn panxidell_read_unsigned(data: &[u8], out: &mut [u32]) -> u64
 // The signed variable integer at the front of `data`.
 #[unsafe(no_mangle)]
 pub extern "C" fn panxidell_read_signed(data: &[u8], out: &mut [u32]) -> u64
-    ensures value { result ≡ packedRead (read_of signed «data».now) out.old }
-    ensures out_after { out.new ≡ listAfter (readWords (read_of signed «data».now)) out.old }
+    ensures value { result ≡ packed_read (read_of signed «data».now) out.old }
+    ensures out_after { out.new ≡ list_after (read_words (read_of signed «data».now)) out.old }
 {
     packing::read(out, variable::read_signed(data))
 }
@@ -130,8 +130,8 @@ pub extern "C" fn panxidell_write_unsigned(
     w2: u32,
     w3: u32,
 ) -> u64
-    ensures value { result ≡ packedCoded (written_of (form unsigned (value_of (words w0 w1 w2 w3))) (length out.old)) }
-    ensures out_after { out.new ≡ outputOf (form unsigned (value_of (words w0 w1 w2 w3))) out.old }
+    ensures value { result ≡ packed_coded (written_of (form unsigned (value_of (words w0 w1 w2 w3))) (length out.old)) }
+    ensures out_after { out.new ≡ output_of (form unsigned (value_of (words w0 w1 w2 w3))) out.old }
 {
     packing::coded(variable::write_unsigned(out, Wide { w0, w1, w2, w3 }))
 }
@@ -139,8 +139,8 @@ pub extern "C" fn panxidell_write_unsigned(
 // Four words as a signed variable integer, shortest, at the front of `out`.
 #[unsafe(no_mangle)]
 pub extern "C" fn panxidell_write_signed(out: &mut [u8], w0: u32, w1: u32, w2: u32, w3: u32) -> u64
-    ensures value { result ≡ packedCoded (written_of (form signed (value_of (words w0 w1 w2 w3))) (length out.old)) }
-    ensures out_after { out.new ≡ outputOf (form signed (value_of (words w0 w1 w2 w3))) out.old }
+    ensures value { result ≡ packed_coded (written_of (form signed (value_of (words w0 w1 w2 w3))) (length out.old)) }
+    ensures out_after { out.new ≡ output_of (form signed (value_of (words w0 w1 w2 w3))) out.old }
 {
     packing::coded(variable::write_signed(out, Wide { w0, w1, w2, w3 }))
 }

@@ -3,8 +3,8 @@ use mathlib.Core.Path.{◌≡◌, sym, ◌∙◌}
 use mathlib.Core.List.{List}
 use Prim.Native.Nat.{ℕ}
 use denote.Ref.{Bor}
-use Rattle.payload.specs.Payload.{payloadAt, lies, partIn}
+use Rattle.payload.specs.Payload.{payload_at, lies, part_in}
 
 -- two slices handed back as a row's payload begin at the same byte of the same memory, and have the same bytes
-pub one-payload : (table : List ℕ) (row : ℕ) (d a b : Bor (List ℕ)) → lies a ≡ partIn d (payloadAt table row d.now) → lies b ≡ partIn d (payloadAt table row d.now) → lies a ≡ lies b
-one-payload table row d a b p q = p ∙ sym q
+pub one_payload : (table : List ℕ) (row : ℕ) (d a b : Bor (List ℕ)) → lies a ≡ part_in d (payload_at table row d.now) → lies b ≡ part_in d (payload_at table row d.now) → lies a ≡ lies b
+one_payload table row d a b p q = p ∙ sym q

@@ -13,28 +13,28 @@ use mir.Val.{Fits}
 use Rattle.lists.proofs.Tests.{and_second}
 use Rattle.wide.proofs.Families.{cond-case}
 use Rattle.rows.specs.declared.row.Row.{Row}
-use Rattle.rows.specs.Table.{rowAt, lent}
+use Rattle.rows.specs.Table.{row_at, lent}
 use Rattle.payload.specs.declared.part.Part.{Part}
-use Rattle.payload.specs.Payload.{hasPayload, part, part_of, payloadAt, partIn}
+use Rattle.payload.specs.Payload.{has_payload, part, part_of, payload_at, part_in}
 
 module _ (table : List ℕ) (row : ℕ) (s : List ℕ) (l : ℕ) (is : l ≡ lent table) where
-  pub part_out : l ≤ row → part 0 0 ≡ payloadAt table row s
-  unfolding payloadAt
+  pub part_out : l ≤ row → part 0 0 ≡ payload_at table row s
+  unfolding payload_at
   part_out h = rw (le-ltb row (lent table) (omega arith))
 
-  module _ (within : row < l) (w : Row) (at : w ≡ rowAt table row) (b : Bool) (has : b ≡ hasPayload w.kind) where
-    pub part_none : b ≡ false → part 0 0 ≡ payloadAt table row s
-    unfolding payloadAt
+  module _ (within : row < l) (w : Row) (at : w ≡ row_at table row) (b : Bool) (has : b ≡ has_payload w.kind) where
+    pub part_none : b ≡ false → part 0 0 ≡ payload_at table row s
+    unfolding payload_at
     part_none e = rw (lt-ltb row (lent table) (omega arith), ← at, ← has, e)
 
     module _ (yes : b ≡ true) (place size : ℕ) (f : place ≡ w.w0) (g : size ≡ w.w1) where
-      pub part-yes : place + size ≤ length s → part place size ≡ payloadAt table row s
-      unfolding payloadAt
-      part-yes h = rw (lt-ltb row (lent table) (omega arith), ← at, ← has, yes, ← f, ← g, le-leb (place + size) (length s) h)
+      pub part_yes : place + size ≤ length s → part place size ≡ payload_at table row s
+      unfolding payload_at
+      part_yes h = rw (lt-ltb row (lent table) (omega arith), ← at, ← has, yes, ← f, ← g, le-leb (place + size) (length s) h)
 
-      pub part-beyond : length s < place + size → part 0 0 ≡ payloadAt table row s
-      unfolding payloadAt
-      part-beyond h = rw (lt-ltb row (lent table) (omega arith), ← at, ← has, yes, ← f, ← g, lt-leb (place + size) (length s) h)
+      pub part_beyond : length s < place + size → part 0 0 ≡ payload_at table row s
+      unfolding payload_at
+      part_beyond h = rw (lt-ltb row (lent table) (omega arith), ← at, ← has, yes, ← f, ← g, lt-leb (place + size) (length s) h)
 
 -- ---- a part lies in the data
 
@@ -43,25 +43,25 @@ Inside s p = p.place + p.size ≤ length s
 
 part-inside : (w : Row) (s : List ℕ) → Inside s (part_of w s)
 part-inside w s =
-    let T : Bool = hasPayload w.kind && leb (w.w0 + w.w1) (length s) in
+    let T : Bool = has_payload w.kind && leb (w.w0 + w.w1) (length s) in
     cond-case (Inside s) T (part w.w0 w.w1) (part 0 0)
-    (λ e. leb-true (w.w0 + w.w1) (length s) (and_second (hasPayload w.kind) (leb (w.w0 + w.w1) (length s)) e))
+    (λ e. leb-true (w.w0 + w.w1) (length s) (and_second (has_payload w.kind) (leb (w.w0 + w.w1) (length s)) e))
     (λ _. omega arith)
 
 -- "every payload lies in the data", whatever the table is
-pub payload-inside : (table : List ℕ) (row : ℕ) (s : List ℕ) → (payloadAt table row s).place + (payloadAt table row s).size ≤ length s
-unfolding payloadAt
-payload-inside table row s = cond-case (Inside s) (ltb row (lent table)) (part_of (rowAt table row) s) (part 0 0) (λ _. part-inside (rowAt table row) s) (λ _. omega arith)
+pub payload_inside : (table : List ℕ) (row : ℕ) (s : List ℕ) → (payload_at table row s).place + (payload_at table row s).size ≤ length s
+unfolding payload_at
+payload_inside table row s = cond-case (Inside s) (ltb row (lent table)) (part_of (row_at table row) s) (part 0 0) (λ _. part-inside (row_at table row) s) (λ _. omega arith)
 
-module _ (table : List ℕ) (row : ℕ) (s : List ℕ) (p : Part) (is : p ≡ payloadAt table row s) where
-  pub part-within : p.place + p.size ≤ length s
-  part-within = rw is (payload-inside table row s)
+module _ (table : List ℕ) (row : ℕ) (s : List ℕ) (p : Part) (is : p ≡ payload_at table row s) where
+  pub part_within : p.place + p.size ≤ length s
+  part_within = rw is (payload_inside table row s)
 
   pub part-fits : Fits w64 (length s) → Fits w64 (p.place + p.size)
-  part-fits f = omega (arith, part-within)
+  part-fits f = omega (arith, part_within)
 
 -- the slice that the code cuts out is that part
-pub part_lies : (table : List ℕ) (row : ℕ) (d : Bor (List ℕ)) (p : Part) → p ≡ payloadAt table row d.now → ((d.ref_ptr.0, p.place + d.ref_ptr.1), take (p.place + p.size - p.place) (drop p.place d.now)) ≡ partIn d (payloadAt table row d.now)
+pub part_lies : (table : List ℕ) (row : ℕ) (d : Bor (List ℕ)) (p : Part) → p ≡ payload_at table row d.now → ((d.ref_ptr.0, p.place + d.ref_ptr.1), take (p.place + p.size - p.place) (drop p.place d.now)) ≡ part_in d (payload_at table row d.now)
 part_lies table row d p is =
     let e : p.place + p.size - p.place ≡ p.size = omega arith in
-    ap (λ (n : ℕ). ((d.ref_ptr.0, p.place + d.ref_ptr.1), take n (drop p.place d.now))) e ∙ ap (partIn d) is
+    ap (λ (n : ℕ). ((d.ref_ptr.0, p.place + d.ref_ptr.1), take n (drop p.place d.now))) e ∙ ap (part_in d) is

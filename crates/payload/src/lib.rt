@@ -2,13 +2,13 @@
 mod part;
 
 ghost use Rattle.std.specs.Prelude.{◌≡◌};
-ghost use Rattle.payload.specs.Payload.{hasPayload, payloadAt, lies, partIn};
+ghost use Rattle.payload.specs.Payload.{has_payload, payload_at, lies, part_in};
 
 pub use part::Part;
 use rows::Row;
 
 fn has_payload(kind: u32) -> bool
-    ensures { result ≡ hasPayload kind }
+    ensures { result ≡ has_payload kind }
 {
     if kind == Row::FLOAT {
         return true;
@@ -27,7 +27,7 @@ fn has_payload(kind: u32) -> bool
 
 // Where a row's payload lies in the data; the empty part at the front where it has none.
 pub fn payload_at(table: &[u32], row: usize, data: &[u8]) -> Part
-    ensures { result ≡ payloadAt table.now row «data».now }
+    ensures { result ≡ payload_at table.now row «data».now }
 {
     if rows::lent(table) <= row {
         return Part { place: 0, size: 0 };
@@ -46,7 +46,7 @@ pub fn payload_at(table: &[u32], row: usize, data: &[u8]) -> Part
 
 // A row's payload, as that part of the lent data.
 pub fn payload<'a>(table: &[u32], row: usize, data: &'a [u8]) -> &'a [u8]
-    ensures { lies result ≡ partIn «data».entry (payloadAt table.now row «data».now) }
+    ensures { lies result ≡ part_in «data».entry (payload_at table.now row «data».now) }
 {
     let p = payload_at(table, row, data);
     let from = p.place;

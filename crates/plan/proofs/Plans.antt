@@ -7,53 +7,53 @@ use native.Mathlib.Omega.{arith}
 use lib.Dec.{ltb, lit≤}
 use Rattle.wide.specs.declared.wide.Wide.{Wide}
 use Rattle.wide.specs.Number.{bytes_of}
-use Rattle.wide.specs.Words.{wideEnd, value_of}
+use Rattle.wide.specs.Words.{wide_end, value_of}
 use Rattle.wide.specs.Body.{size_at, rank}
-use Rattle.wide.specs.Family.{behind, hasNumber, form}
+use Rattle.wide.specs.Family.{behind, has_number, form}
 use Rattle.wide.specs.Members.{run, headed, integer}
-use Rattle.wide.proofs.Wides.{Words, value-lt}
-use Rattle.wide.proofs.Ranks.{rank_lt, size-high}
+use Rattle.wide.proofs.Wides.{Words, value_lt}
+use Rattle.wide.proofs.Ranks.{rank_lt, size_high}
 use Rattle.plan.specs.declared.plan.Plan.{Plan}
-use Rattle.plan.specs.Contracts.{marksOf, planBytes, Plans, Formed}
-use Rattle.plan.proofs.Forms.{double-whole, alone-from, alone-few, form-alone, form-direct, form-body, first-low, integer-alone, integer-body}
+use Rattle.plan.specs.Inner.{marks_of, plan_bytes, Plans, Formed}
+use Rattle.plan.proofs.Forms.{double_whole, alone-from, alone-few, form-alone, form-direct, form-body, first-low, integer-alone, integer-body}
 
-pub as-plan : (p : Plan) (xs ys : List ℕ) → Plans p xs → xs ≡ ys → Plans p ys
-as-plan p xs ys h e = subst (Plans p) e h
+pub as_plan : (p : Plan) (xs ys : List ℕ) → Plans p xs → xs ≡ ys → Plans p ys
+as_plan p xs ys h e = subst (Plans p) e h
 
 abbrev plan : ℕ → ℕ → ℕ → ℕ → ℕ → Wide → Plan
 plan marks first second lead size value = record { marks = marks; first = first; second = second; lead = lead; size = size; value = value }
 
-pub lead-plan : (lead size : ℕ) (value : Wide) → size ≤ 16 → Plans (plan 0 0 0 lead size value) (lead ∷ bytes_of size (value_of value))
-unfolding planBytes
-lead-plan lead size value h = record { few = lit≤ tt; short = h; spells = refl }
+pub lead_plan : (lead size : ℕ) (value : Wide) → size ≤ 16 → Plans (plan 0 0 0 lead size value) (lead ∷ bytes_of size (value_of value))
+unfolding plan_bytes
+lead_plan lead size value h = record { few = lit≤ tt; short = h; spells = refl }
 
 -- ---- a headed number
 
 pub rank-small : (n : ℕ) (value : Wide) (j : ℕ) → n < 2 ^ 64 → value_of value ≡ n → j ≡ rank false (value_of value) → j < 8
-rank-small n value j l p q = omega (arith, q, rank_lt false (value_of value) (omega (arith, p, double-whole)))
+rank-small n value j l p q = omega (arith, q, rank_lt false (value_of value) (omega (arith, p, double_whole)))
 
-module _ (low count from marks first second n : ℕ) (h : (low + count ≤ 256) × (from ≤ 1) × (marks ≤ 2)) (small : n < 2 ^ 64) (r : Bool) (e : r ≡ ltb (behind wideEnd from n) count) where
+module _ (low count from marks first second n : ℕ) (h : (low + count ≤ 256) × (from ≤ 1) × (marks ≤ 2)) (small : n < 2 ^ 64) (r : Bool) (e : r ≡ ltb (behind wide_end from n) count) where
   pub from_low : r ≡ true → from ≤ n
   from_low t = alone-from count from n (omega (arith, h.0)) h.1 small r e t
 
-  pub lead-byte : r ≡ true → low + (n - from) < 256
-  lead-byte t = omega (arith, h.0, alone-few count from n (omega (arith, h.0)) h.1 small r e t)
+  pub lead_byte : r ≡ true → low + (n - from) < 256
+  lead_byte t = omega (arith, h.0, alone-few count from n (omega (arith, h.0)) h.1 small r e t)
 
-  pub alone-plan : r ≡ true → (p : Plan) → Plans p ((low + (n - from)) ∷ []) → Plans p (form (headed (run low count from) (marksOf marks first second)) n)
-  alone-plan t p g = as-plan p _ _ g (form-alone low count from (marksOf marks first second) n h.0 h.1 small r e t)
+  pub alone_plan : r ≡ true → (p : Plan) → Plans p ((low + (n - from)) ∷ []) → Plans p (form (headed (run low count from) (marks_of marks first second)) n)
+  alone_plan t p g = as_plan p _ _ g (form-alone low count from (marks_of marks first second) n h.0 h.1 small r e t)
 
-  pub direct-plan : r ≡ false → n < 248 → (value : Wide) → Plans (plan marks first second n 0 value) (form (headed (run low count from) (marksOf marks first second)) n)
-  unfolding planBytes
-  direct-plan t l value = record { few = h.2; short = lit≤ tt; spells = form-direct low count from (marksOf marks first second) n h.0 h.1 small r e t l }
+  pub direct_plan : r ≡ false → n < 248 → (value : Wide) → Plans (plan marks first second n 0 value) (form (headed (run low count from) (marks_of marks first second)) n)
+  unfolding plan_bytes
+  direct_plan t l value = record { few = h.2; short = lit≤ tt; spells = form-direct low count from (marks_of marks first second) n h.0 h.1 small r e t l }
 
-  pub body-plan : r ≡ false → 248 ≤ n → (value : Wide) (j k : ℕ) → value_of value ≡ n → j ≡ rank false (value_of value) → k ≡ size_at j
-      → Plans (plan marks first second (248 + j) k value) (form (headed (run low count from) (marksOf marks first second)) n)
-  unfolding planBytes
-  body-plan t l value j k p q s =
+  pub body_plan : r ≡ false → 248 ≤ n → (value : Wide) (j k : ℕ) → value_of value ≡ n → j ≡ rank false (value_of value) → k ≡ size_at j
+      → Plans (plan marks first second (248 + j) k value) (form (headed (run low count from) (marks_of marks first second)) n)
+  unfolding plan_bytes
+  body_plan t l value j k p q s =
       record {
         few = h.2;
-        short = omega (arith, s, size-high j (rank-small n value j small p q));
-        spells = form-body low count from (marksOf marks first second) n h.0 h.1 small r e t l (value_of value) j k p q s;
+        short = omega (arith, s, size_high j (rank-small n value j small p q));
+        spells = form-body low count from (marks_of marks first second) n h.0 h.1 small r e t l (value_of value) j k p q s;
       }
 
 -- ---- an integer
@@ -62,23 +62,23 @@ pub first_byte : (signed : Bool) (f j : ℕ) → f ≡ (integer signed).first �
 first_byte signed f j e h = omega (arith, e, first-low signed)
 
 pub size-short : (j k : ℕ) → k ≡ size_at j → j < 8 → k ≤ 16
-size-short j k e h = omega (arith, e, size-high j h)
+size-short j k e h = omega (arith, e, size_high j h)
 
-module _ (signed : Bool) (w : Wide) (h : Words w) (r : Bool) (e : r ≡ hasNumber (integer signed).direct (value_of w)) where
+module _ (signed : Bool) (w : Wide) (h : Words w) (r : Bool) (e : r ≡ has_number (integer signed).direct (value_of w)) where
   pub small-form : r ≡ true → (b : ℕ) → b ≡ (w.w0 % 256 + 63) % 256 → Formed b signed (value_of w)
   small-form t b g =
       let q : b / 256 ≡ 0 = omega arith in
       let m : b % 256 ≡ b = omega arith in
       record {
         small = omega arith;
-        form-is = ap₂ (λ (x k : ℕ). x ∷ bytes_of k (value_of w)) m q ∙ integer-alone signed (value_of w) (value-lt w h) r e t b (g ∙ low w.w0 _);
+        form-is = ap₂ (λ (x k : ℕ). x ∷ bytes_of k (value_of w)) m q ∙ integer-alone signed (value_of w) (value_lt w h) r e t b (g ∙ low w.w0 _);
       }
     where
       low : (a m : ℕ) → (a % 256 + 63) % 256 ≡ ((a + 2 ^ 32 * m) % 256 + 63) % 256
       low a m = omega arith
 
   pub integer-rank : (j : ℕ) → j ≡ rank signed (value_of w) → j < 8
-  integer-rank j q = omega (arith, q, rank_lt signed (value_of w) (value-lt w h))
+  integer-rank j q = omega (arith, q, rank_lt signed (value_of w) (value_lt w h))
 
   pub long-form : r ≡ false → (f j k : ℕ) → f ≡ (integer signed).first → j ≡ rank signed (value_of w) → k ≡ size_at j → Formed (256 * k + (f + j)) signed (value_of w)
   long-form t f j k a b c =
@@ -86,7 +86,7 @@ module _ (signed : Bool) (w : Wide) (h : Words w) (r : Bool) (e : r ≡ hasNumbe
       let z : k ≤ 16 = size-short j k c (integer-rank j b) in
       let q : (256 * k + (f + j)) / 256 ≡ k = omega arith in
       let m : (256 * k + (f + j)) % 256 ≡ f + j = omega arith in
-      record { small = omega arith; form-is = ap₂ (λ (x i : ℕ). x ∷ bytes_of i (value_of w)) m q ∙ integer-body signed (value_of w) (value-lt w h) r e t f j k a b c }
+      record { small = omega arith; form-is = ap₂ (λ (x i : ℕ). x ∷ bytes_of i (value_of w)) m q ∙ integer-body signed (value_of w) (value_lt w h) r e t f j k a b c }
 
-pub formed-plan : (signed : Bool) (n r : ℕ) (p : Plan) → Formed r signed n → Plans p ((r % 256) ∷ bytes_of (r / 256) n) → Plans p (form (integer signed) n)
-formed-plan signed n r p g h = as-plan p _ _ h g.form-is
+pub formed_plan : (signed : Bool) (n r : ℕ) (p : Plan) → Formed r signed n → Plans p ((r % 256) ∷ bytes_of (r / 256) n) → Plans p (form (integer signed) n)
+formed_plan signed n r p g h = as_plan p _ _ h g.form-is

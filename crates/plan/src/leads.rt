@@ -1,11 +1,11 @@
 // The plans of coded numbers.
 ghost use Rattle.std.specs.Prelude.{◌≡◌, [], ◌∷◌, ◌+◌, ◌/◌, ◌%◌, ◌≤◌, ltb};
 ghost use Rattle.wide.specs.Number.{bytes_of};
-ghost use Rattle.wide.specs.Words.{wideEnd, value_of};
+ghost use Rattle.wide.specs.Words.{wide_end, value_of};
 ghost use Rattle.wide.specs.Family.{behind, form};
 ghost use Rattle.wide.specs.Members.{run, headed, integer};
-ghost use Rattle.encode.specs.Encode.{floatMarker};
-ghost use Rattle.plan.specs.Contracts.{marksOf, Plans, Formed};
+ghost use Rattle.encode.specs.Encode.{float_marker};
+ghost use Rattle.plan.specs.Inner.{marks_of, Plans, Formed};
 
 use crate::plan::Plan;
 use wide::Wide;
@@ -47,7 +47,7 @@ pub fn alone(lead: u8) -> Plan
 // Whether n is one of the `count` numbers from `from` on.
 fn is_alone(count: usize, from: usize, n: usize) -> bool
     requires { (count ≤ 256) × (from ≤ 1) }
-    ensures { result ≡ ltb (behind wideEnd from n) count }
+    ensures { result ≡ ltb (behind wide_end from n) count }
 {
     if n < from {
         return false;
@@ -66,7 +66,7 @@ pub fn headed(
     n: usize,
 ) -> Plan
     requires { (low + count ≤ 256) × (from ≤ 1) × (marks ≤ 2) }
-    ensures { Plans result (form (headed (run low count from) (marksOf marks first second)) n) }
+    ensures { Plans result (form (headed (run low count from) (marks_of marks first second)) n) }
 {
     if is_alone(count, from, n) {
         return alone((low as usize + (n - from)) as u8);
@@ -121,7 +121,7 @@ pub fn formed(form: usize, w: Wide) -> Plan
 
 // A float's marker.
 pub fn float_marker(size: u32) -> u8
-    ensures { result ≡ floatMarker size }
+    ensures { result ≡ float_marker size }
 {
     if size == 2 {
         return 3;

@@ -1,7 +1,7 @@
 // A row's head, by its kind.
 ghost use Rattle.wide.specs.Family.{form};
-ghost use Rattle.encode.specs.Encode.{holderCount};
-ghost use Rattle.plan.specs.Contracts.{Plans, ownHead};
+ghost use Rattle.encode.specs.Encode.{holder_count};
+ghost use Rattle.plan.specs.Inner.{Plans, own_head};
 
 use crate::leads::{alone, float_marker, formed, headed, integer_form, lead_and, wide_of};
 use crate::plan::Plan;
@@ -11,7 +11,7 @@ use rules::{Kind, wide_of as words_of};
 
 // A holder's count.
 fn count_head(holder: Holder, count: usize) -> Plan
-    ensures { Plans result (form (holderCount holder) count) }
+    ensures { Plans result (form (holder_count holder) count) }
 {
     match holder {
         Holder::Array => headed(160, 16, 1, 1, 9, 0, count),
@@ -22,7 +22,7 @@ fn count_head(holder: Holder, count: usize) -> Plan
 
 // What stands before a row's payload, or before its children, which take `size` bytes.
 pub fn head_of(w: Row, size: usize) -> Plan
-    ensures { Plans result (ownHead w size) }
+    ensures { Plans result (own_head w size) }
 {
     match rules::named(w) {
         Kind::Constant => alone((w.kind - 1) as u8),

@@ -1,7 +1,7 @@
 // The moves of resolving.
 ghost use Rattle.std.specs.Prelude.{◌≡◌, ◌+◌, ◌≤◌, ◌<◌};
 ghost use Rattle.rows.specs.Table.{lent};
-ghost use Rattle.resolve.specs.Resolve.{valueRow, move_at};
+ghost use Rattle.resolve.specs.Resolve.{value_row, move_at};
 
 use crate::one_move::Move;
 use rows::Row;
@@ -9,7 +9,7 @@ use rows::Row;
 // From a declaration to its value, past `entries` entries, the first of them at `row`.
 fn value_row(table: &[u32], n: usize, end: usize, entries: usize, row: usize) -> Move
     requires { n ≤ lent table.now }
-    ensures { result ≡ valueRow table.now n end entries row }
+    ensures { result ≡ value_row table.now n end entries row }
 {
     let mut at = row;
     let mut left = entries;

@@ -1,13 +1,13 @@
 // The paper's numbers for an answer.
 ghost use Rattle.std.specs.Prelude.{◌≡◌};
-ghost use Rattle.resolve.specs.Resolve.{resolvedNumber, resolvedRow, resolvedBound, resolvedMoves};
+ghost use Rattle.resolve.specs.Resolve.{resolved_number, resolved_row, resolved_bound, resolved_moves};
 
 use crate::resolved::Resolved;
 
 impl Resolved {
     // 0 or 12.
     pub fn number(self) -> u32
-        ensures { result ≡ resolvedNumber self }
+        ensures { result ≡ resolved_number self }
     {
         match self {
             Resolved::At {
@@ -21,7 +21,7 @@ impl Resolved {
 
     // The row where resolving ended.
     pub fn row(self) -> usize
-        ensures { result ≡ resolvedRow self }
+        ensures { result ≡ resolved_row self }
     {
         match self {
             Resolved::At {
@@ -35,7 +35,7 @@ impl Resolved {
 
     // That row's end.
     pub fn bound(self) -> usize
-        ensures { result ≡ resolvedBound self }
+        ensures { result ≡ resolved_bound self }
     {
         match self {
             Resolved::At {
@@ -49,7 +49,7 @@ impl Resolved {
 
     // How many moves led there.
     pub fn moves(self) -> usize
-        ensures { result ≡ resolvedMoves self }
+        ensures { result ≡ resolved_moves self }
     {
         match self {
             Resolved::At {

@@ -3,8 +3,8 @@ use Rattle.std.specs.Prelude.{ℕ, ◌+◌, ◌*◌, ◌/◌, cond, List, [], �
 use Rattle.rows.specs.declared.row.Row.{Row}
 
 -- "A row is six 32-bit unsigned numbers in a lent table: kind, end, w0, w1, w2, w3"
-abbrev pub wordsPerRow : ℕ
-wordsPerRow = 6
+abbrev pub words_per_row : ℕ
+words_per_row = 6
 
 -- what a row says itself: all its numbers but its end
 pub record Own : Type 0 where
@@ -23,8 +23,8 @@ abbrev pub own_of : Row → Own
 own_of w = record { kind = w.kind; w0 = w.w0; w1 = w.w1; w2 = w.w2; w3 = w.w3 }
 
 -- the same with another w0: "w0 place in the data"
-abbrev pub withPlace : Own → ℕ → Own
-withPlace o place = record { kind = o.kind; w0 = place; w1 = o.w1; w2 = o.w2; w3 = o.w3 }
+abbrev pub with_place : Own → ℕ → Own
+with_place o place = record { kind = o.kind; w0 = place; w1 = o.w1; w2 = o.w2; w3 = o.w3 }
 
 -- "14 reference: w0 number, w1 row of that entry": the same with another w1; in the tree it is 0
 abbrev pub aimed : Own → ℕ → Own
@@ -36,11 +36,11 @@ words_of r = r.kind ∷ r.end ∷ r.w0 ∷ r.w1 ∷ r.w2 ∷ r.w3 ∷ []
 
 -- number i of a row of a table
 abbrev pub word_at : List ℕ → ℕ → ℕ → ℕ
-word_at table row i = get_or table (wordsPerRow * row + i) 0
+word_at table row i = get_or table (words_per_row * row + i) 0
 
 -- "Rows stand in document order": row after row, from the front of the table on
-unfoldable pub rowAt : List ℕ → ℕ → Row
-rowAt table row =
+unfoldable pub row_at : List ℕ → ℕ → Row
+row_at table row =
     record {
       kind = word_at table row 0;
       end = word_at table row 1;
@@ -52,15 +52,15 @@ rowAt table row =
 
 -- "A table lends as many rows as it has whole sixes"
 abbrev pub lent : List ℕ → ℕ
-lent table = length table / wordsPerRow
+lent table = length table / words_per_row
 
 -- six zeros: the row of no kind
 abbrev pub zeros : Row
 zeros = record { kind = 0; end = 0; w0 = 0; w1 = 0; w2 = 0; w3 = 0 }
 
 -- a row that the table lends; any other is zeros, also where some of its words are in the table
-unfoldable pub rowOrZeros : List ℕ → ℕ → Row
-rowOrZeros table row = cond (ltb row (lent table)) (rowAt table row) zeros
+unfoldable pub row_or_zeros : List ℕ → ℕ → Row
+row_or_zeros table row = cond (ltb row (lent table)) (row_at table row) zeros
 
 -- "n is 1 to 16,777,215 and the table holds n rows; data are at most 16,777,215 bytes"
 abbrev pub limit : ℕ

@@ -4,7 +4,7 @@ mod making; // a row of each kind
 
 ghost use Rattle.std.specs.Prelude.{◌≡◌, ◌*◌, ◌<◌};
 ghost use Rattle.std.proofs.lemmas.List.Edits.{sets};
-ghost use Rattle.rows.specs.Table.{wordsPerRow, words_of, word_at, rowAt, lent, rowOrZeros};
+ghost use Rattle.rows.specs.Table.{words_per_row, words_of, word_at, row_at, lent, row_or_zeros};
 
 pub use lists::zero_from;
 pub use row::Row;
@@ -26,7 +26,7 @@ pub fn lent(table: &[u32]) -> usize
 // Every other word of the table stays.
 pub fn lay(table: &mut [u32], row: usize, r: Row)
     requires { row < lent table.old }
-    ensures { table.new ≡ sets table.old (wordsPerRow * row) (words_of r) }
+    ensures { table.new ≡ sets table.old (words_per_row * row) (words_of r) }
 {
     let at = Row::WORDS * row;
     table[at] = r.kind;
@@ -39,7 +39,7 @@ pub fn lay(table: &mut [u32], row: usize, r: Row)
 
 // One number of a row: the one place where a row is found in the table to be read.
 fn word_at(table: &[u32], row: usize, i: usize) -> u32
-    requires { (row < lent table.now) × (i < wordsPerRow) }
+    requires { (row < lent table.now) × (i < words_per_row) }
     ensures { result ≡ word_at table.now row i }
 {
     table[Row::WORDS * row + i]
@@ -48,7 +48,7 @@ fn word_at(table: &[u32], row: usize, i: usize) -> u32
 // The words are in the order in which `lay` writes them.
 pub fn row_at(table: &[u32], row: usize) -> Row
     requires { row < lent table.now }
-    ensures { result ≡ rowAt table.now row }
+    ensures { result ≡ row_at table.now row }
 {
     Row {
         kind: word_at(table, row, 0),
@@ -62,7 +62,7 @@ pub fn row_at(table: &[u32], row: usize) -> Row
 
 // For any row number: six zeros, which are no row, where the table does not lend it.
 pub fn row_or_zeros(table: &[u32], row: usize) -> Row
-    ensures { result ≡ rowOrZeros table.now row }
+    ensures { result ≡ row_or_zeros table.now row }
 {
     if row < lent(table) {
         return row_at(table, row);
@@ -80,7 +80,7 @@ pub fn row_or_zeros(table: &[u32], row: usize) -> Row
 // For who needs no more of a row than its kind.
 pub fn kind_at(table: &[u32], row: usize) -> u32
     requires { row < lent table.now }
-    ensures { result ≡ (rowAt table.now row).kind }
+    ensures { result ≡ (row_at table.now row).kind }
 {
     word_at(table, row, 0)
 }
@@ -88,7 +88,7 @@ pub fn kind_at(table: &[u32], row: usize) -> u32
 // Or than its end, as a walk over children does.
 pub fn end_at(table: &[u32], row: usize) -> u32
     requires { row < lent table.now }
-    ensures { result ≡ (rowAt table.now row).end }
+    ensures { result ≡ (row_at table.now row).end }
 {
     word_at(table, row, 1)
 }
@@ -96,7 +96,7 @@ pub fn end_at(table: &[u32], row: usize) -> u32
 // Or than its first word: a count, a place or a number.
 pub fn w0_at(table: &[u32], row: usize) -> u32
     requires { row < lent table.now }
-    ensures { result ≡ (rowAt table.now row).w0 }
+    ensures { result ≡ (row_at table.now row).w0 }
 {
     word_at(table, row, 2)
 }

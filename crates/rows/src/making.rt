@@ -1,8 +1,8 @@
 // A row of each kind. A leaf is told its own row; a holder is told its end, the row behind its children.
 ghost use Rattle.std.specs.Prelude.{◌≡◌, ◌≤◌, ◌<◌, leb};
 ghost use Rattle.rows.specs.Table.{limit, row_of};
-ghost use Rattle.rows.specs.Kinds.{kindFalse, kindTrue, kindNone, kindSmall, kindSigned, kindUnsigned, kindFloat, kindText, kindBinary, kindKey, kindArray, kindRecord, kindMap};
-ghost use Rattle.rows.specs.Kinds.{own, constantOwn, spanOwn, holderOwn, charOwn, referenceOwn, declarationOwn, foreignOwn, damagedOwn, leafRow};
+ghost use Rattle.rows.specs.Kinds.{kind_false, kind_true, kind_none, kind_small, kind_signed, kind_unsigned, kind_float, kind_text, kind_binary, kind_key, kind_array, kind_record, kind_map};
+ghost use Rattle.rows.specs.Kinds.{own, constant_own, span_own, holder_own, char_own, reference_own, declaration_own, foreign_own, damaged_own, leaf_row};
 
 use crate::row::Row;
 
@@ -17,7 +17,7 @@ impl Row {
     // Any row with no child, by its kind.
     pub fn leaf(kind: u32, row: usize, w0: u32, w1: u32, w2: u32, w3: u32) -> Row
         requires { row < limit }
-        ensures { result ≡ leafRow (own kind w0 w1 w2 w3) row }
+        ensures { result ≡ leaf_row (own kind w0 w1 w2 w3) row }
     {
         Row {
             kind,
@@ -32,7 +32,7 @@ impl Row {
     // Any row with children, by its kind.
     pub fn holder(kind: u32, end: usize, count: usize) -> Row
         requires { (end ≤ limit) × (count ≤ limit) }
-        ensures { result ≡ row_of (holderOwn kind count) end }
+        ensures { result ≡ row_of (holder_own kind count) end }
     {
         Row {
             kind,
@@ -47,7 +47,7 @@ impl Row {
     // Any row with a payload, by its kind.
     pub fn span(kind: u32, row: usize, place: usize, size: usize) -> Row
         requires { (row < limit) × (place ≤ limit) × (size ≤ limit) }
-        ensures { result ≡ leafRow (spanOwn kind place size) row }
+        ensures { result ≡ leaf_row (span_own kind place size) row }
     {
         Row::leaf(kind, row, place as u32, size as u32, 0, 0)
     }
@@ -55,7 +55,7 @@ impl Row {
     // False; the word itself belongs to the language.
     pub fn no(row: usize) -> Row
         requires { row < limit }
-        ensures { result ≡ leafRow (constantOwn kindFalse) row }
+        ensures { result ≡ leaf_row (constant_own kind_false) row }
     {
         Row::leaf(Row::FALSE, row, 0, 0, 0, 0)
     }
@@ -63,7 +63,7 @@ impl Row {
     // True, likewise.
     pub fn yes(row: usize) -> Row
         requires { row < limit }
-        ensures { result ≡ leafRow (constantOwn kindTrue) row }
+        ensures { result ≡ leaf_row (constant_own kind_true) row }
     {
         Row::leaf(Row::TRUE, row, 0, 0, 0, 0)
     }
@@ -71,7 +71,7 @@ impl Row {
     // None.
     pub fn none(row: usize) -> Row
         requires { row < limit }
-        ensures { result ≡ leafRow (constantOwn kindNone) row }
+        ensures { result ≡ leaf_row (constant_own kind_none) row }
     {
         Row::leaf(Row::NONE, row, 0, 0, 0, 0)
     }
@@ -79,7 +79,7 @@ impl Row {
     // An integer in -31..64; the four words are its 128 bits, the low word first.
     pub fn small(row: usize, w0: u32, w1: u32, w2: u32, w3: u32) -> Row
         requires { row < limit }
-        ensures { result ≡ leafRow (own kindSmall w0 w1 w2 w3) row }
+        ensures { result ≡ leaf_row (own kind_small w0 w1 w2 w3) row }
     {
         Row::leaf(Row::SMALL, row, w0, w1, w2, w3)
     }
@@ -87,7 +87,7 @@ impl Row {
     // Any other integer of a signed form, in two's complement.
     pub fn signed(row: usize, w0: u32, w1: u32, w2: u32, w3: u32) -> Row
         requires { row < limit }
-        ensures { result ≡ leafRow (own kindSigned w0 w1 w2 w3) row }
+        ensures { result ≡ leaf_row (own kind_signed w0 w1 w2 w3) row }
     {
         Row::leaf(Row::SIGNED, row, w0, w1, w2, w3)
     }
@@ -95,7 +95,7 @@ impl Row {
     // Any other integer of an unsigned form.
     pub fn unsigned(row: usize, w0: u32, w1: u32, w2: u32, w3: u32) -> Row
         requires { row < limit }
-        ensures { result ≡ leafRow (own kindUnsigned w0 w1 w2 w3) row }
+        ensures { result ≡ leaf_row (own kind_unsigned w0 w1 w2 w3) row }
     {
         Row::leaf(Row::UNSIGNED, row, w0, w1, w2, w3)
     }
@@ -103,7 +103,7 @@ impl Row {
     // The bits of a float.
     pub fn float(row: usize, place: usize, size: usize) -> Row
         requires { (row < limit) × (place ≤ limit) × (size ≤ limit) }
-        ensures { result ≡ leafRow (spanOwn kindFloat place size) row }
+        ensures { result ≡ leaf_row (span_own kind_float place size) row }
     {
         Row::span(Row::FLOAT, row, place, size)
     }
@@ -111,7 +111,7 @@ impl Row {
     // The bytes of a text.
     pub fn text(row: usize, place: usize, size: usize) -> Row
         requires { (row < limit) × (place ≤ limit) × (size ≤ limit) }
-        ensures { result ≡ leafRow (spanOwn kindText place size) row }
+        ensures { result ≡ leaf_row (span_own kind_text place size) row }
     {
         Row::span(Row::TEXT, row, place, size)
     }
@@ -119,7 +119,7 @@ impl Row {
     // The bytes of a binary.
     pub fn binary(row: usize, place: usize, size: usize) -> Row
         requires { (row < limit) × (place ≤ limit) × (size ≤ limit) }
-        ensures { result ≡ leafRow (spanOwn kindBinary place size) row }
+        ensures { result ≡ leaf_row (span_own kind_binary place size) row }
     {
         Row::span(Row::BINARY, row, place, size)
     }
@@ -127,7 +127,7 @@ impl Row {
     // The bytes of a record's key.
     pub fn key(row: usize, place: usize, size: usize) -> Row
         requires { (row < limit) × (place ≤ limit) × (size ≤ limit) }
-        ensures { result ≡ leafRow (spanOwn kindKey place size) row }
+        ensures { result ≡ leaf_row (span_own kind_key place size) row }
     {
         Row::span(Row::KEY, row, place, size)
     }
@@ -135,7 +135,7 @@ impl Row {
     // count elements.
     pub fn array(end: usize, count: usize) -> Row
         requires { (end ≤ limit) × (count ≤ limit) }
-        ensures { result ≡ row_of (holderOwn kindArray count) end }
+        ensures { result ≡ row_of (holder_own kind_array count) end }
     {
         Row::holder(Row::ARRAY, end, count)
     }
@@ -143,7 +143,7 @@ impl Row {
     // count entries, a key and a value each.
     pub fn record(end: usize, count: usize) -> Row
         requires { (end ≤ limit) × (count ≤ limit) }
-        ensures { result ≡ row_of (holderOwn kindRecord count) end }
+        ensures { result ≡ row_of (holder_own kind_record count) end }
     {
         Row::holder(Row::RECORD, end, count)
     }
@@ -151,7 +151,7 @@ impl Row {
     // count entries, two values each.
     pub fn map(end: usize, count: usize) -> Row
         requires { (end ≤ limit) × (count ≤ limit) }
-        ensures { result ≡ row_of (holderOwn kindMap count) end }
+        ensures { result ≡ row_of (holder_own kind_map count) end }
     {
         Row::holder(Row::MAP, end, count)
     }
@@ -159,7 +159,7 @@ impl Row {
     // A codepoint.
     pub fn char(row: usize, codepoint: u32) -> Row
         requires { row < limit }
-        ensures { result ≡ leafRow (charOwn codepoint) row }
+        ensures { result ≡ leaf_row (char_own codepoint) row }
     {
         Row::leaf(Row::CHAR, row, codepoint, 0, 0, 0)
     }
@@ -167,7 +167,7 @@ impl Row {
     // The number of an entry in force, and that entry's row.
     pub fn reference(row: usize, number: usize, entry: usize) -> Row
         requires { (row < limit) × (number ≤ limit) × (entry ≤ limit) }
-        ensures { result ≡ leafRow (referenceOwn number entry) row }
+        ensures { result ≡ leaf_row (reference_own number entry) row }
     {
         Row::leaf(Row::REFERENCE, row, number as u32, entry as u32, 0, 0)
     }
@@ -175,7 +175,7 @@ impl Row {
     // The entries are its children, and behind them its value.
     pub fn declaration(end: usize, entries: usize) -> Row
         requires { (end ≤ limit) × (entries ≤ limit) }
-        ensures { result ≡ row_of (declarationOwn entries) end }
+        ensures { result ≡ row_of (declaration_own entries) end }
     {
         Row::holder(Row::DECLARATION, end, entries)
     }
@@ -183,7 +183,7 @@ impl Row {
     // A right foreign document: its child is the document's value.
     pub fn foreign(end: usize) -> Row
         requires { end ≤ limit }
-        ensures { result ≡ row_of foreignOwn end }
+        ensures { result ≡ row_of foreign_own end }
     {
         Row::holder(Row::FOREIGN, end, 0)
     }
@@ -191,7 +191,7 @@ impl Row {
     // A damaged foreign document: its bytes, and the refusal that reading them gives.
     pub fn damaged(row: usize, place: usize, size: usize, verdict: u32) -> Row
         requires { (row < limit) × (place ≤ limit) × (size ≤ limit) }
-        ensures { result ≡ leafRow (damagedOwn place size verdict) row }
+        ensures { result ≡ leaf_row (damaged_own place size verdict) row }
     {
         Row::leaf(Row::FOREIGN, row, place as u32, size as u32, verdict, 0)
     }

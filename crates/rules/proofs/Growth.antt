@@ -10,39 +10,39 @@ use lib.Dec.{ltb, eqb}
 use borrow.Author.Tests.{ltb-true, eqb-true}
 use Rattle.wide.proofs.Families.{cond-case}
 use Rattle.rows.specs.declared.row.Row.{Row}
-use Rattle.rows.specs.Table.{wordsPerRow, Own, row_of, own_of, words_of, rowAt, lent, aimed}
+use Rattle.rows.specs.Table.{words_per_row, Own, row_of, own_of, words_of, row_at, lent, aimed}
 use Rattle.rows.proofs.Rows.{drop-row}
 use Rattle.format.specs.declared.head.Holder.{Holder}
 use Rattle.format.specs.declared.head.Children.{Children}
 use Rattle.format.specs.declared.head.Children.TheVariants.{Entries}
 use Rattle.format.specs.Tree.{Tree, leaf, refer, hold, declare, foreign, damaged, Trees, none, more, many, size, sizes}
-use Rattle.format.specs.Value.{Reading, right, wrong, childCount, childrenOf, inForeign, value, whole, is_key}
-use Rattle.format.specs.Layout.{isEntry, layout, layouts, grown, entries, in_body}
-use Rattle.format.proofs.Layouts.{no-entry, length-body}
+use Rattle.format.specs.Value.{Reading, right, wrong, child_count, children_of, in_foreign, value, whole, is_key}
+use Rattle.format.specs.Layout.{is_entry, layout, layouts, grown, entries, in_body}
+use Rattle.format.proofs.Layouts.{no_entry, length-body}
 use Rattle.rules.specs.declared.shape.Shape.{Shape}
 use Rattle.rules.specs.declared.shape.Shape.TheVariants.{Bad, Leaf, Refer, Hold, Declare, Whole, Damaged}
-use Rattle.rules.specs.Shape.{shape_of, keyFits}
-use Rattle.rules.specs.Grow.{Growth, grew, bad, Growths, grewAll, badAll, Grower, ends_at, atFront, and_then, pointing, overChildren, overValue, overEntries, overBody, judged, keyRow, growKey, item, grows, byShape, rowGrows, grow}
+use Rattle.rules.specs.Shape.{shape_of, key_fits}
+use Rattle.rules.specs.Grow.{Growth, grew, bad, Growths, grew_all, bad_all, Grower, ends_at, at_front, and_then, pointing, over_children, over_value, over_entries, over_body, judged, key_row, grow_key, item, grows, by_shape, row_grows, grow}
 use Rattle.rules.specs.Obeys.{KeyObeys, IfKey, after, Obeys, ObeyAll}
 use Rattle.rules.proofs.Levels.{down}
-use Rattle.rules.proofs.Says.{aimed-shape}
+use Rattle.rules.proofs.Says.{aimed_shape}
 use Rattle.lists.proofs.Tests.{and_first, and_second}
-use Rattle.format.specs.Refusal.{refusalNumber}
+use Rattle.format.specs.Refusal.{refusal_number}
 
 -- a tree of the kind F stands from `row` up to e
 pub record Grew (F : Tree → Type 0) (table : List ℕ) (n : ℕ) (registry : List ℕ) (row : ℕ) (t : Tree) (e : ℕ) : Type 0 where
   pub past : e ≡ row + size t
   pub before : row < e
   pub within : e ≤ n
-  pub last : (rowAt table row).end ≡ e
-  pub words : drop (wordsPerRow * row) table ≡ layout t row registry ++ drop (wordsPerRow * e) table
+  pub last : (row_at table row).end ≡ e
+  pub words : drop (words_per_row * row) table ≡ layout t row registry ++ drop (words_per_row * e) table
   pub obeys : F t
 
 -- trees in a row, the first of them number i of a holder of the sort c; d levels are left
 pub record GrewAll (s : List ℕ) (d : ℕ) (c : Children) (table : List ℕ) (n : ℕ) (registry : List ℕ) (i count row : ℕ) (ts : Trees) (e : ℕ) : Type 0 where
   pub past : e ≡ row + sizes ts
   pub within : e ≤ n
-  pub words : drop (wordsPerRow * row) table ≡ layouts ts (isEntry c) row registry ++ drop (wordsPerRow * e) table
+  pub words : drop (words_per_row * row) table ≡ layouts ts (is_entry c) row registry ++ drop (words_per_row * e) table
   pub number : many ts ≡ count
   pub fines : ObeyAll s d c (length registry) i ts
 
@@ -51,12 +51,12 @@ Sound F table n registry row (grew t e) = Grew F table n registry row t e
 Sound F table n registry row bad = Unit {0}
 
 abbrev pub SoundAll : List ℕ → ℕ → Children → List ℕ → ℕ → List ℕ → ℕ → ℕ → ℕ → Growths → Type 0
-SoundAll s d c table n registry i count row (grewAll ts e) = GrewAll s d c table n registry i count row ts e
-SoundAll s d c table n registry i count row badAll = Unit {0}
+SoundAll s d c table n registry i count row (grew_all ts e) = GrewAll s d c table n registry i count row ts e
+SoundAll s d c table n registry i count row bad_all = Unit {0}
 
 -- the same but for the row's end
 abbrev Inner : (Tree → Type 0) → List ℕ → ℕ → List ℕ → ℕ → Growth → Type 0
-Inner F table n registry row (grew t e) = (rowAt table row).end ≡ e → Grew F table n registry row t e
+Inner F table n registry row (grew t e) = (row_at table row).end ≡ e → Grew F table n registry row t e
 Inner F table n registry row bad = Unit {0}
 
 -- ---- registries
@@ -90,41 +90,41 @@ unfolding words_of
 aimed-words w e entry h k = ap₂ (λ (x y : ℕ). words_of (row_of (aimed (own_of w) y) x)) h k
 
 module _ (table : List ℕ) (n : ℕ) (s : List ℕ) (room : n ≤ lent table) where
-  row_first : (row : ℕ) → row < n → drop (wordsPerRow * row) table ≡ words_of (rowAt table row) ++ drop (wordsPerRow * (row + 1)) table
+  row_first : (row : ℕ) → row < n → drop (words_per_row * row) table ≡ words_of (row_at table row) ++ drop (words_per_row * (row + 1)) table
   row_first row h = drop-row table row (omega arith)
 
-  ends-sound : (F : Tree → Type 0) (registry : List ℕ) (row : ℕ) (g : Growth) → Inner F table n registry row g → Sound F table n registry row (ends_at (rowAt table row).end g)
-  ends-sound F registry row (grew t e) f =
-      cond-case (Sound F table n registry row) (eqb e (rowAt table row).end) (grew t e) bad (λ q. f (sym (eqb-true e (rowAt table row).end q))) (λ _. tt)
-  ends-sound F registry row bad f = tt
+  ends_sound : (F : Tree → Type 0) (registry : List ℕ) (row : ℕ) (g : Growth) → Inner F table n registry row g → Sound F table n registry row (ends_at (row_at table row).end g)
+  ends_sound F registry row (grew t e) f =
+      cond-case (Sound F table n registry row) (eqb e (row_at table row).end) (grew t e) bad (λ q. f (sym (eqb-true e (row_at table row).end q))) (λ _. tt)
+  ends_sound F registry row bad f = tt
 
   -- a tree of one row
-  one-inner : (F : Tree → Type 0) (registry : List ℕ) (row : ℕ) (t : Tree) → row < n → size t ≡ 1
-      → ((rowAt table row).end ≡ row + 1 → words_of (rowAt table row) ≡ layout t row registry) → F t → Inner F table n registry row (grew t (row + 1))
-  one-inner F registry row t h z g f e =
+  one_inner : (F : Tree → Type 0) (registry : List ℕ) (row : ℕ) (t : Tree) → row < n → size t ≡ 1
+      → ((row_at table row).end ≡ row + 1 → words_of (row_at table row) ≡ layout t row registry) → F t → Inner F table n registry row (grew t (row + 1))
+  one_inner F registry row t h z g f e =
       record {
         past = omega arith;
         before = omega arith;
         within = omega arith;
         last = e;
-        words = row_first row h ∙ ap (λ (x : List ℕ). x ++ drop (wordsPerRow * (row + 1)) table) (g e);
+        words = row_first row h ∙ ap (λ (x : List ℕ). x ++ drop (words_per_row * (row + 1)) table) (g e);
         obeys = f;
       }
 
-  leaf-inner : (F : Tree → Type 0) (registry : List ℕ) (row : ℕ) → row < n → F (leaf (own_of (rowAt table row)))
-      → Inner F table n registry row (grew (leaf (own_of (rowAt table row))) (row + 1))
+  leaf_inner : (F : Tree → Type 0) (registry : List ℕ) (row : ℕ) → row < n → F (leaf (own_of (row_at table row)))
+      → Inner F table n registry row (grew (leaf (own_of (row_at table row))) (row + 1))
   unfolding layout size
-  leaf-inner F registry row h f = one-inner F registry row (leaf (own_of (rowAt table row))) h refl (own-words (rowAt table row) (row + 1)) f
+  leaf_inner F registry row h f = one_inner F registry row (leaf (own_of (row_at table row))) h refl (own-words (row_at table row) (row + 1)) f
 
-  pub key-sound : (registry : List ℕ) (row : ℕ) → Sound (KeyObeys s) table n registry row (growKey table n s row)
-  unfolding growKey
-  key-sound registry row =
-      let w : Row = rowAt table row in
-      let T : Bool = keyFits s (own_of w) in
-      cond-case (Sound (KeyObeys s) table n registry row) (ltb row n) (keyRow s row w) bad
-      (λ h. ends-sound (KeyObeys s) registry row (cond T (grew (leaf (own_of w)) (row + 1)) bad)
+  pub key_sound : (registry : List ℕ) (row : ℕ) → Sound (KeyObeys s) table n registry row (grow_key table n s row)
+  unfolding grow_key
+  key_sound registry row =
+      let w : Row = row_at table row in
+      let T : Bool = key_fits s (own_of w) in
+      cond-case (Sound (KeyObeys s) table n registry row) (ltb row n) (key_row s row w) bad
+      (λ h. ends_sound (KeyObeys s) registry row (cond T (grew (leaf (own_of w)) (row + 1)) bad)
       (cond-case (Inner (KeyObeys s) table n registry row) T (grew (leaf (own_of w)) (row + 1)) bad
-      (λ q. leaf-inner (KeyObeys s) registry row (ltb-true row n h) (record { own = own_of w; is = refl; fits = q }))
+      (λ q. leaf_inner (KeyObeys s) registry row (ltb-true row n h) (record { own = own_of w; is = refl; fits = q }))
       (λ _. tt)))
       (λ _. tt)
 
@@ -132,43 +132,43 @@ module _ (table : List ℕ) (n : ℕ) (s : List ℕ) (room : n ≤ lent table) w
     abbrev pub ItemFine : Bool → List ℕ → Tree → Type 0
     ItemFine key registry t = IfKey key (KeyObeys s t) (Obeys s d (length registry) t)
 
-    pub item-sound : (key : Bool) (registry : List ℕ) (row : ℕ) → Sound (ItemFine key registry) table n registry row (item table n s key G registry row)
+    pub item_sound : (key : Bool) (registry : List ℕ) (row : ℕ) → Sound (ItemFine key registry) table n registry row (item table n s key G registry row)
     unfolding item
-    item-sound true registry row = key-sound registry row
-    item-sound false registry row = good registry row
+    item_sound true registry row = key_sound registry row
+    item_sound false registry row = good registry row
 
-    before-sound : (c : Children) (i count : ℕ) (registry : List ℕ) (row : ℕ) (t : Tree) (m : ℕ) → Grew (ItemFine (is_key c i) registry) table n registry row t m
-        → (q : Growths) → SoundAll s d c table n (grown (isEntry c) registry row) (i + 1) count m q → SoundAll s d c table n registry i (suc count) row (atFront t q)
+    before_sound : (c : Children) (i count : ℕ) (registry : List ℕ) (row : ℕ) (t : Tree) (m : ℕ) → Grew (ItemFine (is_key c i) registry) table n registry row t m
+        → (q : Growths) → SoundAll s d c table n (grown (is_entry c) registry row) (i + 1) count m q → SoundAll s d c table n registry i (suc count) row (at_front t q)
     unfolding size layout many Obeys
-    before-sound c i count registry row t m a badAll b = tt
-    before-sound c i count registry row t m a (grewAll ts e) b =
-        let R : List ℕ = grown (isEntry c) registry row in
+    before_sound c i count registry row t m a bad_all b = tt
+    before_sound c i count registry row t m a (grew_all ts e) b =
+        let R : List ℕ = grown (is_entry c) registry row in
         record {
           past = omega (arith, a.past, b.past);
           within = b.within;
           words =
-              glue (layout t row registry) (layout t row registry) (layouts ts (isEntry c) m R) (drop (wordsPerRow * e) table) a.words refl b.words
-              ∙ ap (λ (x : ℕ). (layout t row registry ++ layouts ts (isEntry c) x R) ++ drop (wordsPerRow * e) table) a.past;
+              glue (layout t row registry) (layout t row registry) (layouts ts (is_entry c) m R) (drop (words_per_row * e) table) a.words refl b.words
+              ∙ ap (λ (x : ℕ). (layout t row registry ++ layouts ts (is_entry c) x R) ++ drop (words_per_row * e) table) a.past;
           number = ap suc b.number;
-          fines = (a.obeys, subst (λ (k : ℕ). ObeyAll s d c k (i + 1) ts) (length-grown (isEntry c) registry row) b.fines);
+          fines = (a.obeys, subst (λ (k : ℕ). ObeyAll s d c k (i + 1) ts) (length-grown (is_entry c) registry row) b.fines);
         }
 
-    then-sound : (c : Children) (i count : ℕ) (registry : List ℕ) (row : ℕ) (p : Growth) → Sound (ItemFine (is_key c i) registry) table n registry row p
-        → (rest : ℕ → Growths) → ((m : ℕ) → m ≤ n → SoundAll s d c table n (grown (isEntry c) registry row) (i + 1) count m (rest m))
+    then_sound : (c : Children) (i count : ℕ) (registry : List ℕ) (row : ℕ) (p : Growth) → Sound (ItemFine (is_key c i) registry) table n registry row p
+        → (rest : ℕ → Growths) → ((m : ℕ) → m ≤ n → SoundAll s d c table n (grown (is_entry c) registry row) (i + 1) count m (rest m))
         → SoundAll s d c table n registry i (suc count) row (and_then p rest)
-    then-sound c i count registry row bad a rest b = tt
-    then-sound c i count registry row (grew t m) a rest b = before-sound c i count registry row t m a (rest m) (b m a.within)
+    then_sound c i count registry row bad a rest b = tt
+    then_sound c i count registry row (grew t m) a rest b = before_sound c i count registry row t m a (rest m) (b m a.within)
 
     pub all_sound : (c : Children) (i count : ℕ) (registry : List ℕ) (row : ℕ) → row ≤ n → SoundAll s d c table n registry i count row (grows table n s G c registry i count row)
     unfolding grows size layout many Obeys
     all_sound c i zero registry row h = record { past = omega arith; within = h; words = refl; number = refl; fines = tt }
     all_sound c i (suc count) registry row h =
-        then-sound c i count registry row (item table n s (is_key c i) G registry row) (item-sound (is_key c i) registry row) _
-        (λ m k. all_sound c (i + 1) count (grown (isEntry c) registry row) m k)
+        then_sound c i count registry row (item table n s (is_key c i) G registry row) (item_sound (is_key c i) registry row) _
+        (λ m k. all_sound c (i + 1) count (grown (is_entry c) registry row) m k)
 
     module _ (registry : List ℕ) (row : ℕ) (h : row < n) where
       abbrev w : Row
-      w = rowAt table row
+      w = row_at table row
 
       abbrev o : Own
       o = own_of w
@@ -176,41 +176,41 @@ module _ (table : List ℕ) (n : ℕ) (s : List ℕ) (room : n ≤ lent table) w
       abbrev F : Tree → Type 0
       F = Obeys s (suc d) (length registry)
 
-      leaf-sound : shape_of s o ≡ Leaf → Inner F table n registry row (grew (leaf o) (row + 1))
+      leaf_sound : shape_of s o ≡ Leaf → Inner F table n registry row (grew (leaf o) (row + 1))
       unfolding Obeys
-      leaf-sound e = leaf-inner F registry row h (omega arith, e)
+      leaf_sound e = leaf_inner F registry row h (omega arith, e)
 
-      judged-sound : shape_of s o ≡ Damaged → (x : Reading) → whole (o.w0 + o.w1) (value d s (inForeign (length registry)) o.w0 (o.w0 + o.w1)) ≡ x
+      judged_sound : shape_of s o ≡ Damaged → (x : Reading) → whole (o.w0 + o.w1) (value d s (in_foreign (length registry)) o.w0 (o.w0 + o.w1)) ≡ x
           → Inner F table n registry row (judged row o x)
       unfolding Obeys layout size
-      judged-sound e (right t next) q = tt
-      judged-sound e (wrong r place) q =
-          cond-case (Inner F table n registry row) (eqb o.w2 (refusalNumber r)) (grew (damaged o) (row + 1)) bad
-          (λ v. one-inner F registry row (damaged o) h refl (own-words w (row + 1))
-          (omega arith, e, record { why = r; place = place; reads = rw (down d) q; verdict = eqb-true o.w2 (refusalNumber r) v }))
+      judged_sound e (right t next) q = tt
+      judged_sound e (wrong r place) q =
+          cond-case (Inner F table n registry row) (eqb o.w2 (refusal_number r)) (grew (damaged o) (row + 1)) bad
+          (λ v. one_inner F registry row (damaged o) h refl (own-words w (row + 1))
+          (omega arith, e, record { why = r; place = place; reads = rw (down d) q; verdict = eqb-true o.w2 (refusal_number r) v }))
           (λ _. tt)
 
-      pointing-sound : shape_of s o ≡ Refer → Inner F table n registry row (pointing registry row o)
+      pointing_sound : shape_of s o ≡ Refer → Inner F table n registry row (pointing registry row o)
       unfolding Obeys layout size
-      pointing-sound e =
+      pointing_sound e =
           let A : Bool = ltb o.w0 (length registry) in
           let B : Bool = eqb o.w1 (get_or registry o.w0 0) in
           cond-case (Inner F table n registry row) (A && B) (grew (refer (aimed o 0)) (row + 1)) bad
-          (λ q. one-inner F registry row (refer (aimed o 0)) h refl
+          (λ q. one_inner F registry row (refer (aimed o 0)) h refl
           (λ l. aimed-words w (row + 1) (get_or registry o.w0 0) l (eqb-true o.w1 (get_or registry o.w0 0) (and_second A B q)))
-          (omega arith, aimed-shape s o 0 e, refl, ltb-true o.w0 (length registry) (and_first A B q)))
+          (omega arith, aimed_shape s o 0 e, refl, ltb-true o.w0 (length registry) (and_first A B q)))
           (λ _. tt)
 
       -- its row, and the words of its children behind it
-      over : (t : Tree) (e : ℕ) → e ≡ row + size t → (X : List ℕ) → drop (wordsPerRow * (row + 1)) table ≡ X ++ drop (wordsPerRow * e) table
-          → w.end ≡ e → drop (wordsPerRow * row) table ≡ (words_of (row_of o (row + size t)) ++ X) ++ drop (wordsPerRow * e) table
-      over t e past X x l = glue (words_of w) (words_of (row_of o (row + size t))) X (drop (wordsPerRow * e) table) (row_first row h) (own-words w (row + size t) (l ∙ past)) x
+      over : (t : Tree) (e : ℕ) → e ≡ row + size t → (X : List ℕ) → drop (words_per_row * (row + 1)) table ≡ X ++ drop (words_per_row * e) table
+          → w.end ≡ e → drop (words_per_row * row) table ≡ (words_of (row_of o (row + size t)) ++ X) ++ drop (words_per_row * e) table
+      over t e past X x l = glue (words_of w) (words_of (row_of o (row + size t))) X (drop (words_per_row * e) table) (row_first row h) (own-words w (row + size t) (l ∙ past)) x
 
-      hold-sound : (x : Holder) → shape_of s o ≡ Hold x → (q : Growths) → SoundAll s d (childrenOf x) table n registry 0 (childCount x o.w0) (row + 1) q
-          → Inner F table n registry row (overChildren o q)
+      hold_sound : (x : Holder) → shape_of s o ≡ Hold x → (q : Growths) → SoundAll s d (children_of x) table n registry 0 (child_count x o.w0) (row + 1) q
+          → Inner F table n registry row (over_children o q)
       unfolding Obeys layout size
-      hold-sound x y badAll b = tt
-      hold-sound x y (grewAll ts e) b = λ l.
+      hold_sound x y bad_all b = tt
+      hold_sound x y (grew_all ts e) b = λ l.
           let past' : e ≡ row + (1 + sizes ts) = omega (arith, b.past) in
           record {
             past = past';
@@ -219,15 +219,15 @@ module _ (table : List ℕ) (n : ℕ) (s : List ℕ) (room : n ≤ lent table) w
             last = l;
             words =
                 over (hold o ts) e past' (layouts ts false (row + 1) registry)
-                (subst (λ (z : Bool). drop (wordsPerRow * (row + 1)) table ≡ layouts ts z (row + 1) registry ++ drop (wordsPerRow * e) table) (no-entry x) b.words) l;
-            obeys = (omega arith, (x, y, b.number, subst (λ (z : ℕ). ObeyAll s z (childrenOf x) (length registry) 0 ts) (sym (down d)) b.fines));
+                (subst (λ (z : Bool). drop (words_per_row * (row + 1)) table ≡ layouts ts z (row + 1) registry ++ drop (words_per_row * e) table) (no_entry x) b.words) l;
+            obeys = (omega arith, (x, y, b.number, subst (λ (z : ℕ). ObeyAll s z (children_of x) (length registry) 0 ts) (sym (down d)) b.fines));
           }
 
-      value-sound : shape_of s o ≡ Declare → (es : Trees) (m : ℕ) → GrewAll s d Entries table n [] 0 o.w0 (row + 1) es m → (p : Growth)
-          → Sound (Obeys s d (length (entries es (row + 1) []))) table n (entries es (row + 1) []) m p → Inner F table n registry row (overValue o es p)
+      value_sound : shape_of s o ≡ Declare → (es : Trees) (m : ℕ) → GrewAll s d Entries table n [] 0 o.w0 (row + 1) es m → (p : Growth)
+          → Sound (Obeys s d (length (entries es (row + 1) []))) table n (entries es (row + 1) []) m p → Inner F table n registry row (over_value o es p)
       unfolding Obeys layout size
-      value-sound y es m b bad g = tt
-      value-sound y es m b (grew t e) g = λ l.
+      value_sound y es m b bad g = tt
+      value_sound y es m b (grew t e) g = λ l.
           let A : List ℕ = entries es (row + 1) [] in
           let past' : e ≡ row + (1 + (sizes es + size t)) = omega (arith, b.past, g.past) in
           let k : length A ≡ o.w0 = length-entries es (row + 1) [] ∙ zero-add (many es) ∙ b.number in
@@ -238,8 +238,8 @@ module _ (table : List ℕ) (n : ℕ) (s : List ℕ) (room : n ≤ lent table) w
             last = l;
             words =
                 over (declare o es t) e past' (layouts es true (row + 1) [] ++ layout t (row + 1 + sizes es) A)
-                (glue (layouts es true (row + 1) []) (layouts es true (row + 1) []) (layout t (row + 1 + sizes es) A) (drop (wordsPerRow * e) table) b.words refl
-                (g.words ∙ ap (λ (x : ℕ). layout t x A ++ drop (wordsPerRow * e) table) b.past)) l;
+                (glue (layouts es true (row + 1) []) (layouts es true (row + 1) []) (layout t (row + 1 + sizes es) A) (drop (words_per_row * e) table) b.words refl
+                (g.words ∙ ap (λ (x : ℕ). layout t x A ++ drop (words_per_row * e) table) b.past)) l;
             obeys = (
               omega arith,
               y,
@@ -249,14 +249,14 @@ module _ (table : List ℕ) (n : ℕ) (s : List ℕ) (room : n ≤ lent table) w
             );
           }
 
-      entries-sound : shape_of s o ≡ Declare → (q : Growths) → SoundAll s d Entries table n [] 0 o.w0 (row + 1) q → Inner F table n registry row (overEntries G o (row + 1) q)
-      entries-sound y badAll b = tt
-      entries-sound y (grewAll es m) b = value-sound y es m b (G (entries es (row + 1) []) m) (good (entries es (row + 1) []) m)
+      entries_sound : shape_of s o ≡ Declare → (q : Growths) → SoundAll s d Entries table n [] 0 o.w0 (row + 1) q → Inner F table n registry row (over_entries G o (row + 1) q)
+      entries_sound y bad_all b = tt
+      entries_sound y (grew_all es m) b = value_sound y es m b (G (entries es (row + 1) []) m) (good (entries es (row + 1) []) m)
 
-      body-sound : shape_of s o ≡ Whole → (p : Growth) → Sound (Obeys s d (length (in_body registry))) table n (in_body registry) (row + 1) p → Inner F table n registry row (overBody o p)
+      body_sound : shape_of s o ≡ Whole → (p : Growth) → Sound (Obeys s d (length (in_body registry))) table n (in_body registry) (row + 1) p → Inner F table n registry row (over_body o p)
       unfolding Obeys layout size
-      body-sound y bad g = tt
-      body-sound y (grew t e) g = λ l.
+      body_sound y bad g = tt
+      body_sound y (grew t e) g = λ l.
           let past' : e ≡ row + (1 + size t) = omega (arith, g.past) in
           record {
             past = past';
@@ -267,28 +267,28 @@ module _ (table : List ℕ) (n : ℕ) (s : List ℕ) (room : n ≤ lent table) w
             obeys = (
               omega arith,
               y,
-              subst (λ (x : ℕ). Obeys s x (inForeign (length registry)) t) (sym (down d)) (subst (λ (x : ℕ). Obeys s d x t) (length-body registry) g.obeys),
+              subst (λ (x : ℕ). Obeys s x (in_foreign (length registry)) t) (sym (down d)) (subst (λ (x : ℕ). Obeys s d x t) (length-body registry) g.obeys),
             );
           }
 
-      shape-sound : (x : Shape) → shape_of s o ≡ x → Inner F table n registry row (byShape table n s G d registry row o x)
-      unfolding byShape
-      shape-sound Bad e = tt
-      shape-sound Leaf e = leaf-sound e
-      shape-sound Refer e = pointing-sound e
-      shape-sound (Hold x) e =
-          hold-sound x e (grows table n s G (childrenOf x) registry 0 (childCount x o.w0) (row + 1)) (all_sound (childrenOf x) 0 (childCount x o.w0) registry (row + 1) (omega arith))
-      shape-sound Declare e = entries-sound e (grows table n s G Entries [] 0 o.w0 (row + 1)) (all_sound Entries 0 o.w0 [] (row + 1) (omega arith))
-      shape-sound Whole e = body-sound e (G (in_body registry) (row + 1)) (good (in_body registry) (row + 1))
-      shape-sound Damaged e = judged-sound e (whole (o.w0 + o.w1) (value d s (inForeign (length registry)) o.w0 (o.w0 + o.w1))) refl
+      shape_sound : (x : Shape) → shape_of s o ≡ x → Inner F table n registry row (by_shape table n s G d registry row o x)
+      unfolding by_shape
+      shape_sound Bad e = tt
+      shape_sound Leaf e = leaf_sound e
+      shape_sound Refer e = pointing_sound e
+      shape_sound (Hold x) e =
+          hold_sound x e (grows table n s G (children_of x) registry 0 (child_count x o.w0) (row + 1)) (all_sound (children_of x) 0 (child_count x o.w0) registry (row + 1) (omega arith))
+      shape_sound Declare e = entries_sound e (grows table n s G Entries [] 0 o.w0 (row + 1)) (all_sound Entries 0 o.w0 [] (row + 1) (omega arith))
+      shape_sound Whole e = body_sound e (G (in_body registry) (row + 1)) (good (in_body registry) (row + 1))
+      shape_sound Damaged e = judged_sound e (whole (o.w0 + o.w1) (value d s (in_foreign (length registry)) o.w0 (o.w0 + o.w1))) refl
 
-  pub grow-sound : (d : ℕ) (registry : List ℕ) (row : ℕ) → Sound (Obeys s d (length registry)) table n registry row (grow table n s d registry row)
+  pub grow_sound : (d : ℕ) (registry : List ℕ) (row : ℕ) → Sound (Obeys s d (length registry)) table n registry row (grow table n s d registry row)
   unfolding grow
-  grow-sound zero registry row = tt
-  grow-sound (suc d) registry row =
-      let w : Row = rowAt table row in
+  grow_sound zero registry row = tt
+  grow_sound (suc d) registry row =
+      let w : Row = row_at table row in
       let x : Shape = shape_of s (own_of w) in
-      cond-case (Sound (Obeys s (suc d) (length registry)) table n registry row) (ltb row n) (rowGrows table n s (grow table n s d) d registry row w) bad
-      (λ h. ends-sound (Obeys s (suc d) (length registry)) registry row (byShape table n s (grow table n s d) d registry row (own_of w) x)
-      (shape-sound d (grow table n s d) (grow-sound d) registry row (ltb-true row n h) x refl))
+      cond-case (Sound (Obeys s (suc d) (length registry)) table n registry row) (ltb row n) (row_grows table n s (grow table n s d) d registry row w) bad
+      (λ h. ends_sound (Obeys s (suc d) (length registry)) registry row (by_shape table n s (grow table n s d) d registry row (own_of w) x)
+      (shape_sound d (grow table n s d) (grow_sound d) registry row (ltb-true row n h) x refl))
       (λ _. tt)

@@ -5,7 +5,7 @@ use native.Mathlib.Omega.{arith}
 use mathlib.Core.Bool.{Bool, true, false, ◌&&◌}
 use mathlib.Core.List.{List}
 use lib.ListN.{length}
-use Rattle.format.specs.Head.{floatSizes}
+use Rattle.format.specs.Head.{float_sizes}
 use Rattle.format.specs.declared.head.Holder.{Holder}
 use Rattle.format.specs.Value.{kind_of}
 use Rattle.rows.specs.Table.{aimed}
@@ -13,14 +13,14 @@ use lib.Dec.{ltb, eqb}
 use borrow.Author.Tests.{eqb-true, ltb-true, lt-ltb}
 use Rattle.wide.proofs.Families.{cond-case}
 use Rattle.rows.specs.Table.{Own}
-use Rattle.rows.specs.Kinds.{kindFalse, kindTrue, kindNone, kindSmall, kindSigned, kindUnsigned, kindFloat, kindText, kindArray, kindRecord, kindMap, kindBinary, kindChar, kindReference, kindDeclaration, kindForeign, kindKey, constantOwn, spanOwn, holderOwn, referenceOwn, declarationOwn, foreignOwn, damagedOwn}
+use Rattle.rows.specs.Kinds.{kind_false, kind_true, kind_none, kind_small, kind_signed, kind_unsigned, kind_float, kind_text, kind_array, kind_record, kind_map, kind_binary, kind_char, kind_reference, kind_declaration, kind_foreign, kind_key, constant_own, span_own, holder_own, reference_own, declaration_own, foreign_own, damaged_own}
 use Rattle.rules.specs.declared.kind.Kind.{Kind}
 use Rattle.rules.specs.declared.kind.Kind.TheVariants.{Constant, Small, Signed, Unsigned, Float, Text, Holds, Binary, Char, Reference, Declaration, Whole, Damaged, Key, Unknown}
 use Rattle.rules.specs.declared.shape.Shape.{Shape}
 use Rattle.rules.specs.declared.shape.Shape.TheVariants as shape
-use Rattle.rules.specs.Shape.{named, blank, inside, one_of, span, spelt, fits, shapeIf, shape_of, keyFits}
+use Rattle.rules.specs.Shape.{named, blank, inside, one_of, span, spelt, fits, shape_if, shape_of, key_fits}
 use Rattle.lists.proofs.Tests.{and_first, and_second}
-use Rattle.rules.proofs.Judged.{inside-within, span-within, spelt-span}
+use Rattle.rules.proofs.Judged.{inside_within, span_within, spelt-span}
 
 -- ---- words that are 0
 
@@ -39,62 +39,62 @@ module _ (a b c d : ℕ) (e : blank a b c d ≡ true) where
   pub blank-first : a ≡ 0
   blank-first = eqb-true a 0 (and_first (eqb a 0) (eqb b 0 && (eqb c 0 && eqb d 0)) tests)
 
-  pub blank-second : b ≡ 0
-  blank-second = eqb-true b 0 (and_first (eqb b 0) (eqb c 0 && eqb d 0) behind)
+  pub blank_second : b ≡ 0
+  blank_second = eqb-true b 0 (and_first (eqb b 0) (eqb c 0 && eqb d 0) behind)
 
-  pub blank-third : c ≡ 0
-  blank-third = eqb-true c 0 (and_first (eqb c 0) (eqb d 0) last)
+  pub blank_third : c ≡ 0
+  blank_third = eqb-true c 0 (and_first (eqb c 0) (eqb d 0) last)
 
-  pub blank-fourth : d ≡ 0
-  blank-fourth = eqb-true d 0 (and_second (eqb c 0) (eqb d 0) last)
+  pub blank_fourth : d ≡ 0
+  blank_fourth = eqb-true d 0 (and_second (eqb c 0) (eqb d 0) last)
 
 -- ---- what a kind's number is
 
 abbrev pub Names : Kind → ℕ → Type 0
 Names Constant k = (1 ≤ k) × (k ≤ 3)
-Names Small k = k ≡ kindSmall
-Names Signed k = k ≡ kindSigned
-Names Unsigned k = k ≡ kindUnsigned
-Names Float k = k ≡ kindFloat
-Names Text k = k ≡ kindText
+Names Small k = k ≡ kind_small
+Names Signed k = k ≡ kind_signed
+Names Unsigned k = k ≡ kind_unsigned
+Names Float k = k ≡ kind_float
+Names Text k = k ≡ kind_text
 Names (Holds h) k = k ≡ kind_of h
-Names Binary k = k ≡ kindBinary
-Names Char k = k ≡ kindChar
-Names Reference k = k ≡ kindReference
-Names Declaration k = k ≡ kindDeclaration
-Names Whole k = k ≡ kindForeign
-Names Damaged k = k ≡ kindForeign
-Names Key k = k ≡ kindKey
+Names Binary k = k ≡ kind_binary
+Names Char k = k ≡ kind_char
+Names Reference k = k ≡ kind_reference
+Names Declaration k = k ≡ kind_declaration
+Names Whole k = k ≡ kind_foreign
+Names Damaged k = k ≡ kind_foreign
+Names Key k = k ≡ kind_key
 Names Unknown k = Unit {0}
 
 pub names : (o : Own) → Names (named o) o.kind
 unfolding named
 names o =
-    cond-case N (eqb o.kind kindFalse) _ _ (λ e. let q = eqb-true o.kind kindFalse e in (omega arith, omega arith)) (λ _.
-    cond-case N (eqb o.kind kindTrue) _ _ (λ e. let q = eqb-true o.kind kindTrue e in (omega arith, omega arith)) (λ _.
-    cond-case N (eqb o.kind kindNone) _ _ (λ e. let q = eqb-true o.kind kindNone e in (omega arith, omega arith)) (λ _.
-    cond-case N (eqb o.kind kindSmall) _ _ (λ e. eqb-true o.kind kindSmall e) (λ _.
-    cond-case N (eqb o.kind kindSigned) _ _ (λ e. eqb-true o.kind kindSigned e) (λ _.
-    cond-case N (eqb o.kind kindUnsigned) _ _ (λ e. eqb-true o.kind kindUnsigned e) (λ _.
-    cond-case N (eqb o.kind kindFloat) _ _ (λ e. eqb-true o.kind kindFloat e) (λ _.
-    cond-case N (eqb o.kind kindText) _ _ (λ e. eqb-true o.kind kindText e) (λ _.
-    cond-case N (eqb o.kind kindArray) _ _ (λ e. eqb-true o.kind kindArray e) (λ _.
-    cond-case N (eqb o.kind kindRecord) _ _ (λ e. eqb-true o.kind kindRecord e) (λ _.
-    cond-case N (eqb o.kind kindMap) _ _ (λ e. eqb-true o.kind kindMap e) (λ _.
-    cond-case N (eqb o.kind kindBinary) _ _ (λ e. eqb-true o.kind kindBinary e) (λ _.
-    cond-case N (eqb o.kind kindChar) _ _ (λ e. eqb-true o.kind kindChar e) (λ _.
-    cond-case N (eqb o.kind kindReference) _ _ (λ e. eqb-true o.kind kindReference e) (λ _.
-    cond-case N (eqb o.kind kindDeclaration) _ _ (λ e. eqb-true o.kind kindDeclaration e) (λ _.
-    cond-case N (eqb o.kind kindForeign) _ _ (λ e. let q = eqb-true o.kind kindForeign e in cond-case N (eqb o.w2 0) Whole Damaged (λ _. q) (λ _. q)) (λ _.
-    cond-case N (eqb o.kind kindKey) _ _ (λ e. eqb-true o.kind kindKey e) (λ _.
+    cond-case N (eqb o.kind kind_false) _ _ (λ e. let q = eqb-true o.kind kind_false e in (omega arith, omega arith)) (λ _.
+    cond-case N (eqb o.kind kind_true) _ _ (λ e. let q = eqb-true o.kind kind_true e in (omega arith, omega arith)) (λ _.
+    cond-case N (eqb o.kind kind_none) _ _ (λ e. let q = eqb-true o.kind kind_none e in (omega arith, omega arith)) (λ _.
+    cond-case N (eqb o.kind kind_small) _ _ (λ e. eqb-true o.kind kind_small e) (λ _.
+    cond-case N (eqb o.kind kind_signed) _ _ (λ e. eqb-true o.kind kind_signed e) (λ _.
+    cond-case N (eqb o.kind kind_unsigned) _ _ (λ e. eqb-true o.kind kind_unsigned e) (λ _.
+    cond-case N (eqb o.kind kind_float) _ _ (λ e. eqb-true o.kind kind_float e) (λ _.
+    cond-case N (eqb o.kind kind_text) _ _ (λ e. eqb-true o.kind kind_text e) (λ _.
+    cond-case N (eqb o.kind kind_array) _ _ (λ e. eqb-true o.kind kind_array e) (λ _.
+    cond-case N (eqb o.kind kind_record) _ _ (λ e. eqb-true o.kind kind_record e) (λ _.
+    cond-case N (eqb o.kind kind_map) _ _ (λ e. eqb-true o.kind kind_map e) (λ _.
+    cond-case N (eqb o.kind kind_binary) _ _ (λ e. eqb-true o.kind kind_binary e) (λ _.
+    cond-case N (eqb o.kind kind_char) _ _ (λ e. eqb-true o.kind kind_char e) (λ _.
+    cond-case N (eqb o.kind kind_reference) _ _ (λ e. eqb-true o.kind kind_reference e) (λ _.
+    cond-case N (eqb o.kind kind_declaration) _ _ (λ e. eqb-true o.kind kind_declaration e) (λ _.
+    cond-case N (eqb o.kind kind_foreign) _ _ (λ e. let q = eqb-true o.kind kind_foreign e in cond-case N (eqb o.w2 0) Whole Damaged (λ _. q) (λ _. q)) (λ _.
+    cond-case N (eqb o.kind kind_key) _ _ (λ e. eqb-true o.kind kind_key e) (λ _.
     tt)))))))))))))))))
   where
     N : Kind → Type 0
     N K = Names K o.kind
 
-pub key-named : (o : Own) → o.kind ≡ kindKey → named o ≡ Key
+pub key_named : (o : Own) → o.kind ≡ kind_key → named o ≡ Key
 unfolding named
-key-named o e = rw e
+key_named o e = rw e
 
 -- ---- what a row says, by its shape
 
@@ -104,33 +104,33 @@ own_is o p a b c d e = λ i. record { kind = a i; w0 = b i; w1 = c i; w2 = d i; 
 abbrev pub Says : List ℕ → Own → Shape → Type 0
 Says s o shape.Bad = Unit {0}
 Says s o shape.Leaf = Unit {0}
-Says s o shape.Refer = o ≡ referenceOwn o.w0 o.w1
-Says s o (shape.Hold h) = o ≡ holderOwn (kind_of h) o.w0
-Says s o shape.Declare = (o ≡ declarationOwn o.w0) × (0 < o.w0)
-Says s o shape.Whole = o ≡ foreignOwn
-Says s o shape.Damaged = (o ≡ damagedOwn o.w0 o.w1 o.w2) × (o.w0 + o.w1 ≤ length s)
+Says s o shape.Refer = o ≡ reference_own o.w0 o.w1
+Says s o (shape.Hold h) = o ≡ holder_own (kind_of h) o.w0
+Says s o shape.Declare = (o ≡ declaration_own o.w0) × (0 < o.w0)
+Says s o shape.Whole = o ≡ foreign_own
+Says s o shape.Damaged = (o ≡ damaged_own o.w0 o.w1 o.w2) × (o.w0 + o.w1 ≤ length s)
 
 module _ (s : List ℕ) (o : Own) where
   abbrev B : ℕ → Bool
   B a = blank a o.w1 o.w2 o.w3
 
   -- only w0 may be other than 0
-  pub count-own : (kind a : ℕ) → o.kind ≡ kind → B a ≡ true → o ≡ holderOwn kind o.w0
+  pub count-own : (kind a : ℕ) → o.kind ≡ kind → B a ≡ true → o ≡ holder_own kind o.w0
   count-own kind a m e =
-      own_is o (holderOwn kind o.w0) m refl (blank-second a o.w1 o.w2 o.w3 e) (blank-third a o.w1 o.w2 o.w3 e) (blank-fourth a o.w1 o.w2 o.w3 e)
+      own_is o (holder_own kind o.w0) m refl (blank_second a o.w1 o.w2 o.w3 e) (blank_third a o.w1 o.w2 o.w3 e) (blank_fourth a o.w1 o.w2 o.w3 e)
 
   -- none may
-  pub constant-own : (kind : ℕ) → o.kind ≡ kind → B o.w0 ≡ true → o ≡ constantOwn kind
-  constant-own kind m e = count-own kind o.w0 m e ∙ ap (holderOwn kind) (blank-first o.w0 o.w1 o.w2 o.w3 e)
+  pub constant-own : (kind : ℕ) → o.kind ≡ kind → B o.w0 ≡ true → o ≡ constant_own kind
+  constant-own kind m e = count-own kind o.w0 m e ∙ ap (holder_own kind) (blank-first o.w0 o.w1 o.w2 o.w3 e)
 
   -- only a place and a size
-  pub span-own : (kind : ℕ) → o.kind ≡ kind → span s o ≡ true → o ≡ spanOwn kind o.w0 o.w1
+  pub span-own : (kind : ℕ) → o.kind ≡ kind → span s o ≡ true → o ≡ span_own kind o.w0 o.w1
   unfolding span
   span-own kind m e =
       let b : blank 0 0 o.w2 o.w3 ≡ true = and_first (blank 0 0 o.w2 o.w3) (inside s o.w0 o.w1) e in
-      own_is o (spanOwn kind o.w0 o.w1) m refl refl (blank-third 0 0 o.w2 o.w3 b) (blank-fourth 0 0 o.w2 o.w3 b)
+      own_is o (span_own kind o.w0 o.w1) m refl refl (blank_third 0 0 o.w2 o.w3 b) (blank_fourth 0 0 o.w2 o.w3 b)
 
-  by_kind : (k : Kind) → Names k o.kind → (b : Bool) → fits s o k ≡ b → Says s o (shapeIf b k)
+  by_kind : (k : Kind) → Names k o.kind → (b : Bool) → fits s o k ≡ b → Says s o (shape_if b k)
   unfolding fits
   by_kind k m false e = tt
   by_kind Constant m true e = tt
@@ -143,12 +143,12 @@ module _ (s : List ℕ) (o : Own) where
   by_kind Binary m true e = tt
   by_kind Char m true e = tt
   by_kind Reference m true e =
-      own_is o (referenceOwn o.w0 o.w1) m refl refl (blank-third 0 0 o.w2 o.w3 e) (blank-fourth 0 0 o.w2 o.w3 e)
-  by_kind Declaration m true e = (count-own kindDeclaration 0 m (and_first (B 0) (ltb 0 o.w0) e), ltb-true 0 o.w0 (and_second (B 0) (ltb 0 o.w0) e))
-  by_kind Whole m true e = constant-own kindForeign m e
+      own_is o (reference_own o.w0 o.w1) m refl refl (blank_third 0 0 o.w2 o.w3 e) (blank_fourth 0 0 o.w2 o.w3 e)
+  by_kind Declaration m true e = (count-own kind_declaration 0 m (and_first (B 0) (ltb 0 o.w0) e), ltb-true 0 o.w0 (and_second (B 0) (ltb 0 o.w0) e))
+  by_kind Whole m true e = constant-own kind_foreign m e
   by_kind Damaged m true e = (
-    own_is o (damagedOwn o.w0 o.w1 o.w2) m refl refl refl (blank-fourth 0 0 0 o.w3 (and_first (blank 0 0 0 o.w3) (inside s o.w0 o.w1) e)),
-    inside-within s o (and_second (blank 0 0 0 o.w3) (inside s o.w0 o.w1) e),
+    own_is o (damaged_own o.w0 o.w1 o.w2) m refl refl refl (blank_fourth 0 0 0 o.w3 (and_first (blank 0 0 0 o.w3) (inside s o.w0 o.w1) e)),
+    inside_within s o (and_second (blank 0 0 0 o.w3) (inside s o.w0 o.w1) e),
   )
   by_kind Key m true e = tt
   by_kind Unknown m true e = tt
@@ -158,43 +158,43 @@ module _ (s : List ℕ) (o : Own) where
   says = by_kind (named o) (names o) (fits s o (named o)) refl
 
   -- the same where the shape is known
-  said-as : (x : Shape) → shape_of s o ≡ x → Says s o x
-  said-as x e = subst (Says s o) e says
+  said_as : (x : Shape) → shape_of s o ≡ x → Says s o x
+  said_as x e = subst (Says s o) e says
 
-  pub refer-own : shape_of s o ≡ shape.Refer → o ≡ referenceOwn o.w0 o.w1
-  refer-own e = said-as shape.Refer e
+  pub refer-own : shape_of s o ≡ shape.Refer → o ≡ reference_own o.w0 o.w1
+  refer-own e = said_as shape.Refer e
 
-  pub hold-own : (h : Holder) → shape_of s o ≡ shape.Hold h → o ≡ holderOwn (kind_of h) o.w0
-  hold-own h e = said-as (shape.Hold h) e
+  pub hold-own : (h : Holder) → shape_of s o ≡ shape.Hold h → o ≡ holder_own (kind_of h) o.w0
+  hold-own h e = said_as (shape.Hold h) e
 
-  pub declare-own : shape_of s o ≡ shape.Declare → o ≡ declarationOwn o.w0
-  declare-own e = (said-as shape.Declare e).0
+  pub declare-own : shape_of s o ≡ shape.Declare → o ≡ declaration_own o.w0
+  declare-own e = (said_as shape.Declare e).0
 
   pub declare-some : shape_of s o ≡ shape.Declare → 0 < o.w0
-  declare-some e = (said-as shape.Declare e).1
+  declare-some e = (said_as shape.Declare e).1
 
-  pub foreign-own : shape_of s o ≡ shape.Whole → o ≡ foreignOwn
-  foreign-own e = said-as shape.Whole e
+  pub foreign-own : shape_of s o ≡ shape.Whole → o ≡ foreign_own
+  foreign-own e = said_as shape.Whole e
 
-  pub damaged-own : shape_of s o ≡ shape.Damaged → o ≡ damagedOwn o.w0 o.w1 o.w2
-  damaged-own e = (said-as shape.Damaged e).0
+  pub damaged-own : shape_of s o ≡ shape.Damaged → o ≡ damaged_own o.w0 o.w1 o.w2
+  damaged-own e = (said_as shape.Damaged e).0
 
   pub damaged-inside : shape_of s o ≡ shape.Damaged → o.w0 + o.w1 ≤ length s
-  damaged-inside e = (said-as shape.Damaged e).1
+  damaged-inside e = (said_as shape.Damaged e).1
 
 -- ---- shapes of rows that trees lay
 
-pub refer-shape : (s : List ℕ) (number entry : ℕ) → shape_of s (referenceOwn number entry) ≡ shape.Refer
+pub refer_shape : (s : List ℕ) (number entry : ℕ) → shape_of s (reference_own number entry) ≡ shape.Refer
 unfolding shape_of named fits blank
-refer-shape s number entry = refl
+refer_shape s number entry = refl
 
-pub declare-shape : (s : List ℕ) (count : ℕ) → 0 < count → shape_of s (declarationOwn count) ≡ shape.Declare
+pub declare_shape : (s : List ℕ) (count : ℕ) → 0 < count → shape_of s (declaration_own count) ≡ shape.Declare
 unfolding shape_of named fits blank
-declare-shape s count h = rw (lt-ltb 0 count h)
+declare_shape s count h = rw (lt-ltb 0 count h)
 
 -- a reference is one wherever its entry stands
-pub aimed-shape : (s : List ℕ) (o : Own) (entry : ℕ) → shape_of s o ≡ shape.Refer → shape_of s (aimed o entry) ≡ shape.Refer
-aimed-shape s o entry e = ap (λ (p : Own). shape_of s (aimed p entry)) (refer-own s o e) ∙ refer-shape s o.w0 entry
+pub aimed_shape : (s : List ℕ) (o : Own) (entry : ℕ) → shape_of s o ≡ shape.Refer → shape_of s (aimed o entry) ≡ shape.Refer
+aimed_shape s o entry e = ap (λ (p : Own). shape_of s (aimed p entry)) (refer-own s o e) ∙ refer_shape s o.w0 entry
 
 -- ---- payloads
 
@@ -208,18 +208,18 @@ HasInside l o shape.Declare = ⊥
 HasInside l o shape.Whole = ⊥
 HasInside l o shape.Damaged = ⊥
 
-pub spelt-within : (s : List ℕ) (o : Own) → spelt s o ≡ true → o.w0 + o.w1 ≤ length s
-spelt-within s o e = span-within s o (spelt-span s o e)
+pub spelt_within : (s : List ℕ) (o : Own) → spelt s o ≡ true → o.w0 + o.w1 ≤ length s
+spelt_within s o e = span_within s o (spelt-span s o e)
 
-module _ (s : List ℕ) (o : Own) (f : keyFits s o ≡ true) where
-  pub key-kind : o.kind ≡ kindKey
-  key-kind = eqb-true o.kind kindKey (and_first (eqb o.kind kindKey) (spelt s o) f)
+module _ (s : List ℕ) (o : Own) (f : key_fits s o ≡ true) where
+  pub key_kind : o.kind ≡ kind_key
+  key_kind = eqb-true o.kind kind_key (and_first (eqb o.kind kind_key) (spelt s o) f)
 
-  pub key-spelt : spelt s o ≡ true
-  key-spelt = and_second (eqb o.kind kindKey) (spelt s o) f
+  pub key_spelt : spelt s o ≡ true
+  key_spelt = and_second (eqb o.kind kind_key) (spelt s o) f
 
-  pub key-inside : o.w0 + o.w1 ≤ length s
-  key-inside = spelt-within s o key-spelt
+  pub key_inside : o.w0 + o.w1 ≤ length s
+  key_inside = spelt_within s o key_spelt
 
 module _ (s : List ℕ) (o : Own) (x : Shape) (is : shape_of s o ≡ x) where
   abbrev P : Shape → Type 0
@@ -228,36 +228,36 @@ module _ (s : List ℕ) (o : Own) (x : Shape) (is : shape_of s o ≡ x) where
   abbrev S : Bool
   S = span s o
 
-  pub float-inside : o.kind ≡ kindFloat → P x
+  pub float-inside : o.kind ≡ kind_float → P x
   unfolding shape_of named fits span
-  float-inside e = subst P (rw e at is) (of (S && one_of floatSizes o.w1) refl)
+  float-inside e = subst P (rw e at is) (of (S && one_of float_sizes o.w1) refl)
     where
-      of : (b : Bool) → S && one_of floatSizes o.w1 ≡ b → P (shapeIf b Float)
-      of true q = span-within s o (and_first S (one_of floatSizes o.w1) q)
+      of : (b : Bool) → S && one_of float_sizes o.w1 ≡ b → P (shape_if b Float)
+      of true q = span_within s o (and_first S (one_of float_sizes o.w1) q)
       of false q = tt
 
-  pub text-inside : o.kind ≡ kindText → P x
+  pub text-inside : o.kind ≡ kind_text → P x
   unfolding shape_of named fits spelt span
   text-inside e = subst P (rw e at is) (of (spelt s o) refl)
     where
-      of : (b : Bool) → spelt s o ≡ b → P (shapeIf b Text)
-      of true q = spelt-within s o q
+      of : (b : Bool) → spelt s o ≡ b → P (shape_if b Text)
+      of true q = spelt_within s o q
       of false q = tt
 
-  pub binary-inside : o.kind ≡ kindBinary → P x
+  pub binary-inside : o.kind ≡ kind_binary → P x
   unfolding shape_of named fits span
   binary-inside e = subst P (rw e at is) (of S refl)
     where
-      of : (b : Bool) → S ≡ b → P (shapeIf b Binary)
-      of true q = span-within s o q
+      of : (b : Bool) → S ≡ b → P (shape_if b Binary)
+      of true q = span_within s o q
       of false q = tt
 
   -- a key stands at no value position
-  pub key-bad : o.kind ≡ kindKey → x ≡ shape.Bad
+  pub key_bad : o.kind ≡ kind_key → x ≡ shape.Bad
   unfolding shape_of
-  key-bad e = sym is ∙ ap (λ (K : Kind). shapeIf (fits s o K) K) (key-named o e) ∙ of (fits s o Key)
+  key_bad e = sym is ∙ ap (λ (K : Kind). shape_if (fits s o K) K) (key_named o e) ∙ of (fits s o Key)
     where
-      of : (b : Bool) → shapeIf b Key ≡ shape.Bad
+      of : (b : Bool) → shape_if b Key ≡ shape.Bad
       of true = refl
       of false = refl
 
@@ -282,18 +282,18 @@ OnlyDeclare shape.Whole = ⊥
 OnlyDeclare shape.Damaged = ⊥
 
 module _ (s : List ℕ) (o : Own) (x : Shape) (is : shape_of s o ≡ x) where
-  pub reference-shape : o.kind ≡ kindReference → OnlyRefer x
+  pub reference_shape : o.kind ≡ kind_reference → OnlyRefer x
   unfolding shape_of named fits
-  reference-shape e = subst OnlyRefer (rw e at is) (of (fits s o Reference))
+  reference_shape e = subst OnlyRefer (rw e at is) (of (fits s o Reference))
     where
-      of : (b : Bool) → OnlyRefer (shapeIf b Reference)
+      of : (b : Bool) → OnlyRefer (shape_if b Reference)
       of true = tt
       of false = tt
 
-  pub declaration-shape : o.kind ≡ kindDeclaration → OnlyDeclare x
+  pub declaration_shape : o.kind ≡ kind_declaration → OnlyDeclare x
   unfolding shape_of named fits
-  declaration-shape e = subst OnlyDeclare (rw e at is) (of (fits s o Declaration))
+  declaration_shape e = subst OnlyDeclare (rw e at is) (of (fits s o Declaration))
     where
-      of : (b : Bool) → OnlyDeclare (shapeIf b Declaration)
+      of : (b : Bool) → OnlyDeclare (shape_if b Declaration)
       of true = tt
       of false = tt

@@ -1,7 +1,7 @@
 // The paper's table of kinds.
 ghost use Rattle.std.specs.Prelude.{◌≡◌};
 ghost use Rattle.rows.specs.Table.{own_of};
-ghost use Rattle.rules.specs.Shape.{named, fits, shapeFor};
+ghost use Rattle.rules.specs.Shape.{named, fits, shape_for};
 
 use crate::kind::Kind;
 use crate::shape::Shape;
@@ -122,7 +122,7 @@ pub fn fits(s: &[u8], w: Row, kind: Kind) -> bool
 
 // What such a row is, where they are.
 pub fn shape_for(kind: Kind) -> Shape
-    ensures { result ≡ shapeFor kind }
+    ensures { result ≡ shape_for kind }
 {
     match kind {
         Kind::Constant => Shape::Leaf,

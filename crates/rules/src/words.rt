@@ -2,7 +2,7 @@
 ghost use Rattle.std.specs.Prelude.{◌≡◌};
 ghost use Rattle.wide.specs.Words.{words};
 ghost use Rattle.rows.specs.Table.{own_of};
-ghost use Rattle.format.specs.Head.{floatSizes};
+ghost use Rattle.format.specs.Head.{float_sizes};
 ghost use Rattle.rules.specs.Shape.{blank, inside, one_of, span, spelt};
 
 use rows::Row;
@@ -32,7 +32,7 @@ pub fn inside(s: &[u8], place: u32, size: u32) -> bool
 }
 
 pub fn is_float_size(n: u32) -> bool
-    ensures { result ≡ one_of floatSizes n }
+    ensures { result ≡ one_of float_sizes n }
 {
     if n == 2 {
         return true;

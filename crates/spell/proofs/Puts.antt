@@ -7,63 +7,63 @@ use native.Mathlib.Nat.{min-eq_left}
 use native.Mathlib.Omega.{arith}
 use lib.ListN.{length, take, drop, get_or, set, length-append, length-take, length-drop, length-set}
 use lib.Seq.{sets, drop-cons, length-sets, take-add, drop-drop}
-use Rattle.lists.proofs.Sets.{sets-append, sets_over}
+use Rattle.lists.proofs.Sets.{sets_append, sets_over}
 use Rattle.wide.specs.Number.{bytes_of}
 use Rattle.wide.specs.Words.{value_of}
-use Rattle.wide.proofs.Numbers.{length-bytesOf}
+use Rattle.wide.proofs.Numbers.{length-bytes_of}
 use Rattle.rows.specs.declared.row.Row.{Row}
-use Rattle.encode.specs.Encode.{hasBytes, payloadOf}
+use Rattle.encode.specs.Encode.{has_bytes, payload_of}
 use Rattle.encode.proofs.Back.{part-long}
 use Rattle.plan.specs.declared.plan.Plan.{Plan}
-use Rattle.plan.specs.Contracts.{marksOf, planBytes, Plans, ownHead}
+use Rattle.plan.specs.Inner.{marks_of, plan_bytes, Plans, own_head}
 use Rattle.rows.specs.Table.{own_of}
 use Rattle.rules.specs.Shape.{named}
-use Rattle.spell.specs.Contracts.{ownBytes, ownSize, Inside}
+use Rattle.spell.specs.Inner.{own_bytes, own_size, Inside}
 
 -- ---- marks
 
-pub one-mark : (out : List ℕ) (at m f s : ℕ) → m ≡ 1 → set out at f ≡ sets out at (marksOf m f s)
-one-mark out at m f s e = ap (λ (x : ℕ). sets out at (marksOf x f s)) (sym e)
+pub one_mark : (out : List ℕ) (at m f s : ℕ) → m ≡ 1 → set out at f ≡ sets out at (marks_of m f s)
+one_mark out at m f s e = ap (λ (x : ℕ). sets out at (marks_of x f s)) (sym e)
 
-pub two-marks : (out : List ℕ) (at m f s : ℕ) → m ≤ 2 → (m ≡ 0 → ⊥) → (m ≡ 1 → ⊥) → set (set out at f) (at + 1) s ≡ sets out at (marksOf m f s)
-two-marks out at m f s h z o =
+pub two_marks : (out : List ℕ) (at m f s : ℕ) → m ≤ 2 → (m ≡ 0 → ⊥) → (m ≡ 1 → ⊥) → set (set out at f) (at + 1) s ≡ sets out at (marks_of m f s)
+two_marks out at m f s h z o =
     let e : m ≡ 2 = omega arith in
     let n : at + 1 ≡ suc at = omega arith in
-    ap (λ (x : ℕ). set (set out at f) x s) n ∙ ap (λ (x : ℕ). sets out at (marksOf x f s)) (sym e)
+    ap (λ (x : ℕ). set (set out at f) x s) n ∙ ap (λ (x : ℕ). sets out at (marks_of x f s)) (sym e)
 
-marks-long : (m f s : ℕ) → m ≤ 2 → length (marksOf m f s) ≡ m
-marks-long m f s h = length-take m (f ∷ s ∷ []) ∙ min-eq_left h
+marks_long : (m f s : ℕ) → m ≤ 2 → length (marks_of m f s) ≡ m
+marks_long m f s h = length-take m (f ∷ s ∷ []) ∙ min-eq_left h
 
 -- ---- a plan
 
-pub plan-long : (p : Plan) → p.marks ≤ 2 → length (planBytes p) ≡ p.marks + 1 + p.size
-unfolding planBytes
-plan-long p h =
-    omega (arith, length-append (marksOf p.marks p.first p.second) (p.lead ∷ bytes_of p.size (value_of p.value)), marks-long p.marks p.first p.second h, length-bytesOf p.size (value_of p.value))
+pub plan_long : (p : Plan) → p.marks ≤ 2 → length (plan_bytes p) ≡ p.marks + 1 + p.size
+unfolding plan_bytes
+plan_long p h =
+    omega (arith, length-append (marks_of p.marks p.first p.second) (p.lead ∷ bytes_of p.size (value_of p.value)), marks_long p.marks p.first p.second h, length-bytes_of p.size (value_of p.value))
 
-pub plan-put : (out out₁ out₂ : List ℕ) (at next : ℕ) (p : Plan) → p.marks ≤ 2 → next ≡ at + p.marks → out₁ ≡ sets out at (marksOf p.marks p.first p.second)
-    → out₂ ≡ sets (set out₁ next p.lead) (next + 1) (bytes_of p.size (value_of p.value)) → out₂ ≡ sets out at (planBytes p)
-unfolding planBytes
-plan-put out out₁ out₂ at next p h n e g =
-    let ms : List ℕ = marksOf p.marks p.first p.second in
+pub plan_put : (out out₁ out₂ : List ℕ) (at next : ℕ) (p : Plan) → p.marks ≤ 2 → next ≡ at + p.marks → out₁ ≡ sets out at (marks_of p.marks p.first p.second)
+    → out₂ ≡ sets (set out₁ next p.lead) (next + 1) (bytes_of p.size (value_of p.value)) → out₂ ≡ sets out at (plan_bytes p)
+unfolding plan_bytes
+plan_put out out₁ out₂ at next p h n e g =
+    let ms : List ℕ = marks_of p.marks p.first p.second in
     let B : List ℕ = bytes_of p.size (value_of p.value) in
-    let k : next ≡ at + length ms = omega (arith, n, marks-long p.marks p.first p.second h) in
+    let k : next ≡ at + length ms = omega (arith, n, marks_long p.marks p.first p.second h) in
     let i : next + 1 ≡ suc next = omega arith in
-    g ∙ ap (λ (x : ℕ). sets (set out₁ next p.lead) x B) i ∙ ap₂ (λ (l : List ℕ) (x : ℕ). sets l x (p.lead ∷ B)) e k ∙ sym (sets-append out at ms (p.lead ∷ B))
+    g ∙ ap (λ (x : ℕ). sets (set out₁ next p.lead) x B) i ∙ ap₂ (λ (l : List ℕ) (x : ℕ). sets l x (p.lead ∷ B)) e k ∙ sym (sets_append out at ms (p.lead ∷ B))
 
 -- ---- a part of the data: what is left to lay completes it
 
-pub part-start : (out d : List ℕ) (at place size : ℕ) → sets out (at + 0) (take (size - 0) (drop (place + 0) d)) ≡ sets out at (take size (drop place d))
-part-start out d at place size =
+pub part_start : (out d : List ℕ) (at place size : ℕ) → sets out (at + 0) (take (size - 0) (drop (place + 0) d)) ≡ sets out at (take size (drop place d))
+part_start out d at place size =
     let p : at + 0 ≡ at = omega arith in
     let q : size - 0 ≡ size = omega arith in
     let r : place + 0 ≡ place = omega arith in
     ap₂ (λ (a k : ℕ). sets out a (take k (drop (place + 0) d))) p q ∙ ap (λ (x : ℕ). sets out at (take size (drop x d))) r
 
-pub part-turn : (out t d : List ℕ) (at place size i b : ℕ) → i < size → place + size ≤ length d → b ≡ get_or d (place + i) 0
+pub part_turn : (out t d : List ℕ) (at place size i b : ℕ) → i < size → place + size ≤ length d → b ≡ get_or d (place + i) 0
     → sets out (at + i) (take (size - i) (drop (place + i) d)) ≡ t
     → sets (set out (at + i) b) (at + (i + 1)) (take (size - (i + 1)) (drop (place + (i + 1)) d)) ≡ t
-part-turn out t d at place size i b l h e g =
+part_turn out t d at place size i b l h e g =
     let k : ℕ = size - (i + 1) in
     let p : at + (i + 1) ≡ suc (at + i) = omega arith in
     let q : place + (i + 1) ≡ suc (place + i) = omega arith in
@@ -93,24 +93,24 @@ part-over out d at e i n l u h =
     let ly : length y ≤ length z = omega (arith, part-long d e (i - e) (omega arith), part-long d e n h) in
     ap (λ (j : ℕ). sets (sets out at (take j d)) (at + e) z) k
     ∙ ap (λ (v : List ℕ). sets (sets out at v) (at + e) z) (take-add e (i - e) d)
-    ∙ ap (λ (v : List ℕ). sets v (at + e) z) (sets-append out at x y ∙ ap (λ (j : ℕ). sets (sets out at x) (at + j) y) le)
+    ∙ ap (λ (v : List ℕ). sets v (at + e) z) (sets_append out at x y ∙ ap (λ (j : ℕ). sets (sets out at x) (at + j) y) le)
     ∙ sets_over (sets out at x) (at + e) y z ly
     ∙ ap (λ (j : ℕ). sets (sets out at x) (at + j) z) (sym le)
-    ∙ sym (sets-append out at x z)
+    ∙ sym (sets_append out at x z)
     ∙ ap (sets out at) (sym (take-add e n d))
 
-pub part-on : (out₀ out after s : List ℕ) (at place e i n : ℕ) → e ≤ i → i ≤ e + n → place + (e + n) ≤ length s → out ≡ sets out₀ at (take i (drop place s))
+pub part_on : (out₀ out after s : List ℕ) (at place e i n : ℕ) → e ≤ i → i ≤ e + n → place + (e + n) ≤ length s → out ≡ sets out₀ at (take i (drop place s))
     → after ≡ sets out (at + e) (take n (drop (place + e) s)) → after ≡ sets out₀ at (take (e + n) (drop place s))
-part-on out₀ out after s at place e i n l u h eo ea =
+part_on out₀ out after s at place e i n l u h eo ea =
     ea
     ∙ ap₂ (λ (o v : List ℕ). sets o (at + e) (take n v)) eo (sym (drop-drop e place s))
     ∙ part-over out₀ (drop place s) at e i n l u (omega (arith, length-drop place s))
 
-pub part-last : (out₀ out after s : List ℕ) (at place size i : ℕ) → 8 ≤ size → i ≤ size → size - i ≤ 8 → place + size ≤ length s → out ≡ sets out₀ at (take i (drop place s))
+pub part_last : (out₀ out after s : List ℕ) (at place size i : ℕ) → 8 ≤ size → i ≤ size → size - i ≤ 8 → place + size ≤ length s → out ≡ sets out₀ at (take i (drop place s))
     → after ≡ sets out (at + (size - 8)) (take 8 (drop (place + (size - 8)) s)) → after ≡ sets out₀ at (take size (drop place s))
-part-last out₀ out after s at place size i w l u h eo ea =
+part_last out₀ out after s at place size i w l u h eo ea =
     let k : size - 8 + 8 ≡ size = omega arith in
-    part-on out₀ out after s at place (size - 8) i 8 (omega arith) (omega arith) (omega arith) eo ea ∙ ap (λ (n : ℕ). sets out₀ at (take n (drop place s))) k
+    part_on out₀ out after s at place (size - 8) i 8 (omega arith) (omega arith) (omega arith) eo ea ∙ ap (λ (n : ℕ). sets out₀ at (take n (drop place s))) k
 
 -- ---- the first k bytes of a part, laid one by one
 
@@ -119,87 +119,87 @@ abbrev pub on : ℕ → ℕ → ℕ
 on at zero = at
 on at (suc k) = at + suc k
 
-pub on-is : (at k : ℕ) → on at k ≡ at + k
-on-is at zero = omega arith
-on-is at (suc k) = refl
+pub on_is : (at k : ℕ) → on at k ≡ at + k
+on_is at zero = omega arith
+on_is at (suc k) = refl
 
 abbrev pub firsts : ℕ → List ℕ → ℕ → List ℕ → ℕ → List ℕ
 firsts zero out at d p = out
 firsts (suc k) out at d p = set (firsts k out at d p) (on at k) (get_or d (on p k) 0)
 
-pub firsts-long : (k : ℕ) (out : List ℕ) (at : ℕ) (d : List ℕ) (p : ℕ) → length (firsts k out at d p) ≡ length out
-firsts-long zero out at d p = refl
-firsts-long (suc k) out at d p = length-set (firsts k out at d p) (on at k) _ ∙ firsts-long k out at d p
+pub firsts_long : (k : ℕ) (out : List ℕ) (at : ℕ) (d : List ℕ) (p : ℕ) → length (firsts k out at d p) ≡ length out
+firsts_long zero out at d p = refl
+firsts_long (suc k) out at d p = length-set (firsts k out at d p) (on at k) _ ∙ firsts_long k out at d p
 
-pub firsts-laid : (k : ℕ) (out : List ℕ) (at : ℕ) (d : List ℕ) (p : ℕ) → p + k ≤ length d → firsts k out at d p ≡ sets out at (take k (drop p d))
-firsts-laid zero out at d p h = refl
-firsts-laid (suc k) out at d p h =
+pub firsts_laid : (k : ℕ) (out : List ℕ) (at : ℕ) (d : List ℕ) (p : ℕ) → p + k ≤ length d → firsts k out at d p ≡ sets out at (take k (drop p d))
+firsts_laid zero out at d p h = refl
+firsts_laid (suc k) out at d p h =
     let e : k + 1 ≡ suc k = omega arith in
     let F : List ℕ = firsts k out at d p in
-    part-on out F _ d at p k k 1 (omega arith) (omega arith) (omega arith) (firsts-laid k out at d p (omega arith))
-    (ap₂ (λ (x y : ℕ). set F x (get_or d y 0)) (on-is at k) (on-is p k) ∙ ap (λ (l : List ℕ). sets F (at + k) (take 1 l)) (sym (drop-cons d (p + k) 0 (omega arith))))
+    part_on out F _ d at p k k 1 (omega arith) (omega arith) (omega arith) (firsts_laid k out at d p (omega arith))
+    (ap₂ (λ (x y : ℕ). set F x (get_or d y 0)) (on_is at k) (on_is p k) ∙ ap (λ (l : List ℕ). sets F (at + k) (take 1 l)) (sym (drop-cons d (p + k) 0 (omega arith))))
     ∙ ap (λ (n : ℕ). sets out at (take n (drop p d))) e
 
 -- ---- a row
 
-module _ (w : Row) (size : ℕ) (p : Plan) (h : Plans p (ownHead w size)) where
-  pub head-long : p.marks + 1 + p.size ≡ length (ownHead w size)
-  head-long = sym (plan-long p h.few) ∙ ap length h.spells
+module _ (w : Row) (size : ℕ) (p : Plan) (h : Plans p (own_head w size)) where
+  pub head_long : p.marks + 1 + p.size ≡ length (own_head w size)
+  head_long = sym (plan_long p h.few) ∙ ap length h.spells
 
-  module _ (b : Bool) (e : b ≡ hasBytes (named (own_of w))) where
-    pub size-with : b ≡ true → (n : ℕ) → n ≡ w.w1 → p.marks + 1 + p.size + n ≡ ownSize w size
-    unfolding ownSize
-    size-with t n q = ap₂ (λ (x y : ℕ). x + y) head-long (q ∙ ap (λ (x : Bool). cond x w.w1 0) (sym t ∙ e))
+  module _ (b : Bool) (e : b ≡ has_bytes (named (own_of w))) where
+    pub size_with : b ≡ true → (n : ℕ) → n ≡ w.w1 → p.marks + 1 + p.size + n ≡ own_size w size
+    unfolding own_size
+    size_with t n q = ap₂ (λ (x y : ℕ). x + y) head_long (q ∙ ap (λ (x : Bool). cond x w.w1 0) (sym t ∙ e))
 
-    pub size-without : b ≡ false → p.marks + 1 + p.size ≡ ownSize w size
-    unfolding ownSize
-    size-without t = omega (arith, head-long, ap (λ (x : Bool). cond x w.w1 0) (sym t ∙ e))
+    pub size_without : b ≡ false → p.marks + 1 + p.size ≡ own_size w size
+    unfolding own_size
+    size_without t = omega (arith, head_long, ap (λ (x : Bool). cond x w.w1 0) (sym t ∙ e))
 
     module _ (s : List ℕ) where
-      own-with : b ≡ true → ownBytes s w size ≡ planBytes p ++ take w.w1 (drop w.w0 s)
-      unfolding ownBytes
-      own-with t = ap₂ (λ (x : List ℕ) (y : Bool). x ++ cond y (take w.w1 (drop w.w0 s)) []) (sym h.spells) (sym e ∙ t)
+      own_with : b ≡ true → own_bytes s w size ≡ plan_bytes p ++ take w.w1 (drop w.w0 s)
+      unfolding own_bytes
+      own_with t = ap₂ (λ (x : List ℕ) (y : Bool). x ++ cond y (take w.w1 (drop w.w0 s)) []) (sym h.spells) (sym e ∙ t)
 
-      own-without : b ≡ false → ownBytes s w size ≡ planBytes p
-      unfolding ownBytes
-      own-without t = ap₂ (λ (x : List ℕ) (y : Bool). x ++ cond y (take w.w1 (drop w.w0 s)) []) (sym h.spells) (sym e ∙ t) ∙ append-nil (planBytes p)
+      own_without : b ≡ false → own_bytes s w size ≡ plan_bytes p
+      unfolding own_bytes
+      own_without t = ap₂ (λ (x : List ℕ) (y : Bool). x ++ cond y (take w.w1 (drop w.w0 s)) []) (sym h.spells) (sym e ∙ t) ∙ append-nil (plan_bytes p)
 
-      payload-in : b ≡ true → Inside s w → w.w0 + w.w1 ≤ length s
+      payload_in : b ≡ true → Inside s w → w.w0 + w.w1 ≤ length s
       unfolding Inside
-      payload-in t i = i (sym e ∙ t)
+      payload_in t i = i (sym e ∙ t)
 
-      with-long : b ≡ true → Inside s w → length (ownBytes s w size) ≡ length (planBytes p) + w.w1
-      with-long t i =
+      with_long : b ≡ true → Inside s w → length (own_bytes s w size) ≡ length (plan_bytes p) + w.w1
+      with_long t i =
           let P : List ℕ = take w.w1 (drop w.w0 s) in
-          ap length (own-with t) ∙ length-append (planBytes p) P ∙ ap (λ (x : ℕ). length (planBytes p) + x) (part-long s w.w0 w.w1 (payload-in t i))
+          ap length (own_with t) ∙ length-append (plan_bytes p) P ∙ ap (λ (x : ℕ). length (plan_bytes p) + x) (part-long s w.w0 w.w1 (payload_in t i))
 
       -- a row with a payload
-      module _ (t : b ≡ true) (i : Inside s w) (place n at next : ℕ) (q : place ≡ w.w0) (r : n ≡ w.w1) (k : next ≡ at + length (planBytes p)) (out out₁ : List ℕ) (g : out₁ ≡ sets out at (planBytes p))
-          (room : at + length (ownBytes s w size) ≤ length out) where
+      module _ (t : b ≡ true) (i : Inside s w) (place n at next : ℕ) (q : place ≡ w.w0) (r : n ≡ w.w1) (k : next ≡ at + length (plan_bytes p)) (out out₁ : List ℕ) (g : out₁ ≡ sets out at (plan_bytes p))
+          (room : at + length (own_bytes s w size) ≤ length out) where
         pub part_room : next + n ≤ length out₁
-        part_room = omega (arith, r, k, with-long t i, room, ap length g, length-sets out at (planBytes p))
+        part_room = omega (arith, r, k, with_long t i, room, ap length g, length-sets out at (plan_bytes p))
 
         pub part-inside : place + n ≤ length s
-        part-inside = omega (arith, q, r, payload-in t i)
+        part-inside = omega (arith, q, r, payload_in t i)
 
-        pub row_next : next + n ≡ at + length (ownBytes s w size)
-        row_next = omega (arith, r, k, with-long t i)
+        pub row_next : next + n ≡ at + length (own_bytes s w size)
+        row_next = omega (arith, r, k, with_long t i)
 
-        pub row_laid : (out₂ : List ℕ) → out₂ ≡ sets out₁ next (take n (drop place s)) → out₂ ≡ sets out at (ownBytes s w size)
+        pub row_laid : (out₂ : List ℕ) → out₂ ≡ sets out₁ next (take n (drop place s)) → out₂ ≡ sets out at (own_bytes s w size)
         row_laid out₂ f =
             f ∙ ap₂ (λ (x y : ℕ). sets out₁ next (take x (drop y s))) r q
             ∙ ap₂ (λ (l : List ℕ) (x : ℕ). sets l x (take w.w1 (drop w.w0 s))) g k
-            ∙ sym (sets-append out at (planBytes p) (take w.w1 (drop w.w0 s)))
-            ∙ ap (sets out at) (sym (own-with t))
+            ∙ sym (sets_append out at (plan_bytes p) (take w.w1 (drop w.w0 s)))
+            ∙ ap (sets out at) (sym (own_with t))
 
       -- one without
-      module _ (t : b ≡ false) (at next : ℕ) (k : next ≡ at + length (planBytes p)) where
-        pub bare-next : next ≡ at + length (ownBytes s w size)
-        bare-next = k ∙ ap (λ (x : List ℕ). at + length x) (sym (own-without t))
+      module _ (t : b ≡ false) (at next : ℕ) (k : next ≡ at + length (plan_bytes p)) where
+        pub bare_next : next ≡ at + length (own_bytes s w size)
+        bare_next = k ∙ ap (λ (x : List ℕ). at + length x) (sym (own_without t))
 
-        pub bare-laid : (out out₁ : List ℕ) → out₁ ≡ sets out at (planBytes p) → out₁ ≡ sets out at (ownBytes s w size)
-        bare-laid out out₁ g = g ∙ ap (sets out at) (sym (own-without t))
+        pub bare_laid : (out out₁ : List ℕ) → out₁ ≡ sets out at (plan_bytes p) → out₁ ≡ sets out at (own_bytes s w size)
+        bare_laid out out₁ g = g ∙ ap (sets out at) (sym (own_without t))
 
-  pub plan-room : (s : List ℕ) (at : ℕ) (out : List ℕ) → at + length (ownBytes s w size) ≤ length out → at + length (planBytes p) ≤ length out
-  unfolding ownBytes
-  plan-room s at out r = omega (arith, r, length-append (ownHead w size) (payloadOf s (own_of w)), ap length h.spells)
+  pub plan_room : (s : List ℕ) (at : ℕ) (out : List ℕ) → at + length (own_bytes s w size) ≤ length out → at + length (plan_bytes p) ≤ length out
+  unfolding own_bytes
+  plan_room s at out r = omega (arith, r, length-append (own_head w size) (payload_of s (own_of w)), ap length h.spells)

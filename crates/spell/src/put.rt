@@ -1,11 +1,11 @@
 // Laying a row's own bytes.
 ghost use Rattle.std.specs.Prelude.{◌≡◌, true, false, ◌+◌, ◌≤◌, length, take, drop};
 ghost use Rattle.std.proofs.lemmas.List.Edits.{sets};
-ghost use Rattle.encode.specs.Encode.{hasBytes};
-ghost use Rattle.plan.specs.Contracts.{marksOf, planBytes};
+ghost use Rattle.encode.specs.Encode.{has_bytes};
+ghost use Rattle.plan.specs.Inner.{marks_of, plan_bytes};
 ghost use Rattle.rows.specs.Table.{own_of};
 ghost use Rattle.rules.specs.Shape.{named};
-ghost use Rattle.spell.specs.Contracts.{Inside, ownBytes, ownSize};
+ghost use Rattle.spell.specs.Inner.{Inside, own_bytes, own_size};
 
 use plan::{Plan, head_of};
 use rows::Row;
@@ -13,7 +13,7 @@ use rules::Kind;
 
 // Whether a row has bytes of the data.
 fn has_bytes(w: Row) -> bool
-    ensures { result ≡ hasBytes (named (own_of w)) }
+    ensures { result ≡ has_bytes (named (own_of w)) }
 {
     match rules::named(w) {
         Kind::Constant => false,
@@ -36,7 +36,7 @@ fn has_bytes(w: Row) -> bool
 
 // How many bytes a row has of its own, where its children take `size`.
 pub fn row_size(w: Row, size: usize) -> usize
-    ensures { result ≡ ownSize w size }
+    ensures { result ≡ own_size w size }
 {
     let p = head_of(w, size);
     let head = p.marks + 1 + p.size;
@@ -49,7 +49,7 @@ pub fn row_size(w: Row, size: usize) -> usize
 fn put_marks(out: &mut [u8], at: usize, p: Plan) -> usize
     requires { (p.marks ≤ 2) × (at + p.marks ≤ length out.old) }
     ensures value { result ≡ at + p.marks }
-    ensures out_after { out.new ≡ sets out.old at (marksOf p.marks p.first p.second) }
+    ensures out_after { out.new ≡ sets out.old at (marks_of p.marks p.first p.second) }
 {
     if p.marks == 0 {
         return at;
@@ -63,9 +63,9 @@ fn put_marks(out: &mut [u8], at: usize, p: Plan) -> usize
 }
 
 fn put_plan(out: &mut [u8], at: usize, p: Plan) -> usize
-    requires { (p.marks ≤ 2) × (at + length (planBytes p) ≤ length out.old) }
-    ensures value { result ≡ at + length (planBytes p) }
-    ensures out_after { out.new ≡ sets out.old at (planBytes p) }
+    requires { (p.marks ≤ 2) × (at + length (plan_bytes p) ≤ length out.old) }
+    ensures value { result ≡ at + length (plan_bytes p) }
+    ensures out_after { out.new ≡ sets out.old at (plan_bytes p) }
 {
     let next = put_marks(out, at, p);
     out[next] = p.lead;
@@ -127,9 +127,9 @@ fn put_part(out: &mut [u8], at: usize, data: &[u8], place: usize, size: usize)
 
 // A row's own bytes at `at`, where it has none of the data; only the contract speaks of them.
 fn put_bare(out: &mut [u8], at: usize, data: &[u8], w: Row, size: usize) -> usize
-    requires { (hasBytes (named (own_of w)) ≡ false) × (at + length (ownBytes «data».now w size) ≤ length out.old) }
-    ensures value { result ≡ at + length (ownBytes «data».now w size) }
-    ensures out_after { out.new ≡ sets out.old at (ownBytes «data».now w size) }
+    requires { (has_bytes (named (own_of w)) ≡ false) × (at + length (own_bytes «data».now w size) ≤ length out.old) }
+    ensures value { result ≡ at + length (own_bytes «data».now w size) }
+    ensures out_after { out.new ≡ sets out.old at (own_bytes «data».now w size) }
 {
     let p = head_of(w, size);
     put_plan(out, at, p)
@@ -137,9 +137,9 @@ fn put_bare(out: &mut [u8], at: usize, data: &[u8], w: Row, size: usize) -> usiz
 
 // A row's own bytes at `at`, where it has some of the data.
 fn put_with(out: &mut [u8], at: usize, data: &[u8], w: Row, size: usize) -> usize
-    requires { (hasBytes (named (own_of w)) ≡ true) × Inside «data».now w × (at + length (ownBytes «data».now w size) ≤ length out.old) }
-    ensures value { result ≡ at + length (ownBytes «data».now w size) }
-    ensures out_after { out.new ≡ sets out.old at (ownBytes «data».now w size) }
+    requires { (has_bytes (named (own_of w)) ≡ true) × Inside «data».now w × (at + length (own_bytes «data».now w size) ≤ length out.old) }
+    ensures value { result ≡ at + length (own_bytes «data».now w size) }
+    ensures out_after { out.new ≡ sets out.old at (own_bytes «data».now w size) }
 {
     let p = head_of(w, size);
     let next = put_plan(out, at, p);
@@ -151,9 +151,9 @@ fn put_with(out: &mut [u8], at: usize, data: &[u8], w: Row, size: usize) -> usiz
 // A row's own bytes at `at`, where its children take `size`; the place behind them. Each kind has a call of its own, which is compiled for
 // that kind alone: no plan passes through memory.
 pub fn put_row(out: &mut [u8], at: usize, data: &[u8], w: Row, size: usize) -> usize
-    requires { Inside «data».now w × (at + length (ownBytes «data».now w size) ≤ length out.old) }
-    ensures value { result ≡ at + length (ownBytes «data».now w size) }
-    ensures out_after { out.new ≡ sets out.old at (ownBytes «data».now w size) }
+    requires { Inside «data».now w × (at + length (own_bytes «data».now w size) ≤ length out.old) }
+    ensures value { result ≡ at + length (own_bytes «data».now w size) }
+    ensures out_after { out.new ≡ sets out.old at (own_bytes «data».now w size) }
 {
     match rules::named(w) {
         Kind::Constant => put_bare(out, at, data, w, size),

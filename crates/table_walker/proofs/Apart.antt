@@ -80,17 +80,17 @@ from_fields way d = way d.table.now d.n (standing d.row d.bound)
 
 module _ {M : Type 1} (𝓤 : Ura M) (way : Way) where
   -- the contract of the function that is called
-  abbrev pub on-fields : Clauses 𝓤 callee.ended
-  on-fields κs a = record { ghost = Unit {0}; requires = λ g. emp 𝓤; ensures = λ g r e. fact 𝓤 (r ≡ way a.0.now a.1.0 (standing a.1.1.0 a.1.1.1.0)) }
+  abbrev pub on_fields : Clauses 𝓤 callee.ended
+  on_fields κs a = record { ghost = Unit {0}; requires = λ g. emp 𝓤; ensures = λ g r e. fact 𝓤 (r ≡ way a.0.now a.1.0 (standing a.1.1.0 a.1.1.1.0)) }
 
 module _ {M : Type 1} (𝓤 : Ura M) (answer : Walker → Step) where
   -- the contract of the one that calls it
-  abbrev pub on-walker : Clauses 𝓤 caller.ended
-  on-walker κs a = record { ghost = Unit {0}; requires = λ g. emp 𝓤; ensures = λ g r e. fact 𝓤 (r ≡ answer a.0) }
+  abbrev pub on_walker : Clauses 𝓤 caller.ended
+  on_walker κs a = record { ghost = Unit {0}; requires = λ g. emp 𝓤; ensures = λ g r e. fact 𝓤 (r ≡ answer a.0) }
 
 module _ {M : Type 1} {𝓤 : Ura M} (𝓛 : Logic 𝓤) (way : Way) where
   abbrev pub Called : Contract 𝓤
-  Called = triple_of 𝓛 callee.signature (closing 𝓛 callee.ended (on-fields 𝓤 way))
+  Called = triple_of 𝓛 callee.signature (closing 𝓛 callee.ended (on_fields 𝓤 way))
 
 module _ {M : Type 1} {𝓤 : Ura M} (𝓛 : Logic 𝓤) (way : Way) (answer : Walker → Step) (same : (d : Walker) → from_fields way d ≡ answer d) (κ : Lft) (q : Share) (d : Walker) where
   open 𝓛 use {H}
@@ -102,7 +102,7 @@ module _ {M : Type 1} {𝓤 : Ura M} (𝓛 : Logic 𝓤) (way : Way) (answer : W
   found = from_fields way d
 
   abbrev Post : Val → SProp 𝓤
-  Post = (walk_of 𝓛 caller.ended stayed (on-walker 𝓤 answer)).post (((κ, tt), (q, tt), tt, (d, tt), (mach ∷ [], tt)), tt)
+  Post = (walk_of 𝓛 caller.ended stayed (on_walker 𝓤 answer)).post (((κ, tt), (q, tt), tt, (d, tt), (mach ∷ [], tt)), tt)
 
   abbrev Own : Fml
   Own = (B (κ, tt)).own d (mach ∷ [])
@@ -137,13 +137,13 @@ module _ {M : Type 1} {𝓤 : Ura M} (𝓛 : Logic 𝓤) (way : Way) (answer : W
       move ! (2 ∷ 0 ∷ []) $ use2 𝓛 (raw ((Called 𝓛 way).pre to)) asked $ frame ! $ done !)
 
   -- of the callee's `ensured`, the clause alone: it has no `&mut`, so what is said of last values is dropped
-  said : (r : Step) → ent 𝓤 (ensured 𝓛 callee.ended (on-fields 𝓤 way) (κ, tt) vd tt r) (fact 𝓤 (r ≡ found))
+  said : (r : Step) → ent 𝓤 (ensured 𝓛 callee.ended (on_fields 𝓤 way) (κ, tt) vd tt r) (fact 𝓤 (r ≡ found))
   said r = ex_e 𝓤 _ (λ ws. snd∗ 𝓤 (sem 𝓛 (lasts callee.ended (κ, tt) vd ws)) (fact 𝓤 (r ≡ found)))
 
   exits : (r : Step) (u : Val) → r ≡ found → ent 𝓤 (⋆ 𝓛 (‵ ((S.the_row).own_val r (u ∷ [])) ∷ (‵ (flft κ q) ⊛ ‵ ftrue) ∷ ‵ Own ∷ [])) (Post u)
   exits r u e =
       qed 𝓛 (‵ ((S.the_row).own_val r (u ∷ [])) ∷ (‵ (flft κ q) ⊛ ‵ ftrue) ∷ ‵ Own ∷ []) ∵
-      suffices ! _ (ends_at 𝓛 caller.ended stayed (on-walker 𝓤 answer) (((κ, tt), (q, tt), tt, (d, tt), (mach ∷ [], tt)), tt) u r (tt, tt) (tt, tt)) $ says ! (e ∙ same d) $
+      suffices ! _ (ends_at 𝓛 caller.ended stayed (on_walker 𝓤 answer) (((κ, tt), (q, tt), tt, (d, tt), (mach ∷ [], tt)), tt) u r (tt, tt) (tt, tt)) $ says ! (e ∙ same d) $
       move ! (1 ∷ []) $ frame ! $ nothing ! $ move ! (2 ∷ 0 ∷ []) $ fjoin ! $ frame ! $ done !
 
   module _ (k : Name) (C : Calls 𝓤 H) (Λ : Loops 𝓤 H) (fm : FmC 𝓤 H 𝓛.laws C) (known : Triple 𝓤 (C k) (Called 𝓛 way)) where
@@ -158,7 +158,7 @@ module _ {M : Type 1} {𝓤 : Ura M} (𝓛 : Logic 𝓤) (way : Way) (answer : W
         assigns ! (of_opd ! (load ! (from ! (fld ! refl (stop !))) (look_in ! 8 (sub ! 3 refl (whole !))))) (from ! (stop !)) (init ! 0 refl (tt, wt.1.1.1.1.0)) $
         move ! (12 ∷ []) $ use1 𝓛 (raw ((Called 𝓛 way).pre to) ⊛ ‵ Own) apart $ split ! $
         calls_at ! fm (Called 𝓛 way) known to (and_then ! (load ! (from ! (stop !)) (look ! 8 refl)) (and_then ! (load ! (from ! (stop !)) (look ! 6 refl)) (and_then ! (load ! (from ! (stop !)) (look ! 4 refl)) (and_then ! (load ! (from ! (stop !)) (look ! 2 refl)) (no_more !))))) (λ u.
-        use1 𝓛 (later (some (λ (r : Step). ((‵ (flft κ q) ⊛ ‵ ftrue) ⊛ ‵ ((S.the_row).own_val r (u ∷ []))) ⊛ raw (ensured 𝓛 callee.ended (on-fields 𝓤 way) (κ, tt) vd tt r)))) (id⊢ 𝓤 _) $ await ! tt $ pick ! (λ r.
+        use1 𝓛 (later (some (λ (r : Step). ((‵ (flft κ q) ⊛ ‵ ftrue) ⊛ ‵ ((S.the_row).own_val r (u ∷ []))) ⊛ raw (ensured 𝓛 callee.ended (on_fields 𝓤 way) (κ, tt) vd tt r)))) (id⊢ 𝓤 _) $ await ! tt $ pick ! (λ r.
         split ! $ move ! (1 ∷ []) $ use1 𝓛 (raw (fact 𝓤 (r ≡ found))) (said r) $ heard ! (r ≡ found) (λ e. split ! $ move ! (1 ∷ []) $
         -- [the result; the token; what the struct owns; _5; …; _4; …; _3; …; _2; …; _1; …; room for _0; …]
         peeks ! S.the_row (Is S.the_row) (shows 𝓛 S.the_row) r (u ∷ []) (λ is.
@@ -169,10 +169,10 @@ module _ {M : Type 1} {𝓤 : Ura M} (𝓛 : Logic 𝓤) (way : Way) (answer : W
 module _ {M : Type 1} {𝓤 : Ura M} (𝓛 : Logic 𝓤) (way : Way) (answer : Walker → Step) (same : (d : Walker) → from_fields way d ≡ answer d) (k : Name) where
   open 𝓛 use {H}
 
-  walks : (C : Calls 𝓤 H) (Λ : Loops 𝓤 H) → FmC 𝓤 H 𝓛.laws C → Triple 𝓤 (C k) (Called 𝓛 way) → Walks 𝓛 caller.ended stayed (WpFn 𝓤 H C Λ (function k)) (on-walker 𝓤 answer)
-  walks C Λ fm known = walked 𝓛 caller.ended stayed (on-walker 𝓤 answer) (WpFn 𝓤 H C Λ (function k)) (λ κs. (LL.vals (T.the_type (named_lft 1 0 tt κs)) (T'.the_laws (named_lft 1 0 tt κs)), tt)) (λ κs. (LL.tells (T.the_type (named_lft 1 0 tt κs)) (T'.the_laws (named_lft 1 0 tt κs)), tt))
+  walks : (C : Calls 𝓤 H) (Λ : Loops 𝓤 H) → FmC 𝓤 H 𝓛.laws C → Triple 𝓤 (C k) (Called 𝓛 way) → Walks 𝓛 caller.ended stayed (WpFn 𝓤 H C Λ (function k)) (on_walker 𝓤 answer)
+  walks C Λ fm known = walked 𝓛 caller.ended stayed (on_walker 𝓤 answer) (WpFn 𝓤 H C Λ (function k)) (λ κs. (LL.vals (T.the_type (named_lft 1 0 tt κs)) (T'.the_laws (named_lft 1 0 tt κs)), tt)) (λ κs. (LL.tells (T.the_type (named_lft 1 0 tt κs)) (T'.the_laws (named_lft 1 0 tt κs)), tt))
       (λ κs qs bounds a g are. via 𝓤 _ (fst∗ 𝓤 _ (emp 𝓤)) (walk 𝓛 way answer same κs.0 qs.0 a.0 k C Λ fm known ((LL.lawful (T.the_type (named_lft 1 0 tt κs)) (T'.the_laws (named_lft 1 0 tt κs)) 𝓛).typed a.0 _ are.0).0))
 
-  pub meets : (𝓣 : Tables 𝓤 H) → Triple 𝓤 (𝓣.C k) (Called 𝓛 way) → Meets 𝓛 caller.signature (WpFn 𝓤 H 𝓣.C 𝓣.Λ (function k)) (closing 𝓛 caller.ended (on-walker 𝓤 answer))
-  meets 𝓣 known = walk_Meets 𝓛 caller.ended stayed (Goes-none 𝓛 1 B yes (λ κs x f. refl), tt) (on-walker 𝓤 answer) (WpFn 𝓤 H 𝓣.C 𝓣.Λ (function k)) (WpFn-mono 𝓤 H 𝓛.laws 𝓣 (function k))
+  pub meets : (𝓣 : Tables 𝓤 H) → Triple 𝓤 (𝓣.C k) (Called 𝓛 way) → Meets 𝓛 caller.signature (WpFn 𝓤 H 𝓣.C 𝓣.Λ (function k)) (closing 𝓛 caller.ended (on_walker 𝓤 answer))
+  meets 𝓣 known = walk_Meets 𝓛 caller.ended stayed (Goes-none 𝓛 1 B yes (λ κs x f. refl), tt) (on_walker 𝓤 answer) (WpFn 𝓤 H 𝓣.C 𝓣.Λ (function k)) (WpFn-mono 𝓤 H 𝓛.laws 𝓣 (function k))
       (walks 𝓣.C 𝓣.Λ (fm_of 𝓤 H 𝓛.laws 𝓣) known)

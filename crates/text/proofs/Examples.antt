@@ -4,7 +4,7 @@ use mathlib.Core.List.{List, [], ◌∷◌, map}
 use mathlib.Core.Path.{◌≡◌, refl}
 use Rattle.text.specs.declared.answer.Text.{Text}
 use Rattle.text.specs.declared.answer.Text.TheVariants.{WellFormed, IllFormed}
-use Rattle.text.specs.Check.{sequence, textFrom, text_of}
+use Rattle.text.specs.Check.{sequence, text_from, text_of}
 
 infix 68 ◌says◌
 pub data Example : Type 0 where
@@ -36,5 +36,5 @@ examples =
     ∷ []
 
 pub all_said : map (λ (e : Example). text_of (bytes e)) examples ≡ map answer examples
-unfolding examples text_of textFrom sequence
+unfolding examples text_of text_from sequence
 all_said = refl

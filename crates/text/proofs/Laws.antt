@@ -9,14 +9,14 @@ use lib.Seq.{length-take-le}
 use Rattle.text.specs.declared.answer.Text.{Text}
 use Rattle.text.specs.declared.answer.Text.TheVariants.{WellFormed, IllFormed}
 use Rattle.text.specs.Grammar.{Sequences, Breaks}
-use Rattle.text.specs.Check.{textFrom, text_of}
+use Rattle.text.specs.Check.{text_from, text_of}
 use Rattle.text.proofs.Walks.{stops}
 use Rattle.text.proofs.Runs.{passed, join, nothing, Judged, judged}
 
 -- a run of sequences is well formed
 pub well-formed : {s : List ℕ} → Sequences s → text_of s ≡ WellFormed
-unfolding text_of textFrom
-well-formed {s} h = ap (textFrom 0 0) (sym (append-nil s)) ∙ passed h 0 []
+unfolding text_of text_from
+well-formed {s} h = ap (text_from 0 0) (sym (append-nil s)) ∙ passed h 0 []
 
 -- and nothing else is
 pub sequences : (s : List ℕ) → text_of s ≡ WellFormed → Sequences s
@@ -24,9 +24,9 @@ unfolding text_of
 sequences s e = subst (Judged 0 s) e (judged 0 0 s)
 
 -- the offset is where the first ill-formed sequence begins
-pub first-break : (s : List ℕ) (k : ℕ) → text_of s ≡ IllFormed k → Breaks s k
+pub first_break : (s : List ℕ) (k : ℕ) → text_of s ≡ IllFormed k → Breaks s k
 unfolding text_of
-first-break s k e =
+first_break s k e =
     let b = subst (Judged 0 s) e (judged 0 0 s) in
     let j : b.0 ≡ k = omega arith in
     subst (Breaks s) j b.2
@@ -37,10 +37,10 @@ unfolding text_of
 offset s k b =
     let inside : k ≤ length s = omega (arith, b.inside) in
     let i : 0 + length (take k s) ≡ k = omega (arith, length-take-le k s inside) in
-    ap (textFrom 0 0) (sym (take-append-drop k s))
+    ap (text_from 0 0) (sym (take-append-drop k s))
     ∙ passed b.before 0 (drop k s)
-    ∙ ap (λ (j : ℕ). textFrom j 0 (drop k s)) i
-    ∙ stops k (drop k s) (omega (arith, length-drop k s, b.inside)) (nothing (drop k s) b.none-there)
+    ∙ ap (λ (j : ℕ). text_from j 0 (drop k s)) i
+    ∙ stops k (drop k s) (omega (arith, length-drop k s, b.inside)) (nothing (drop k s) b.none_there)
 
 -- joined, well-formed texts are well formed
 pub joined : (a b : List ℕ) → text_of a ≡ WellFormed → text_of b ≡ WellFormed → text_of (a ++ b) ≡ WellFormed

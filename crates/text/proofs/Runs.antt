@@ -11,17 +11,17 @@ use Rattle.text.specs.declared.answer.Text.TheVariants.{WellFormed, IllFormed}
 use Rattle.text.specs.Syntax.{Line, UTF8-char}
 use Rattle.text.specs.Grammar.{none, more}
 use Rattle.text.specs.Grammar.{Sequence, Sequences, Breaks}
-use Rattle.text.specs.Check.{sequence, begins, textFrom}
+use Rattle.text.specs.Check.{sequence, begins, text_from}
 use Rattle.text.proofs.Fronts.{Front, front, sequence-taken, sequence-bytes}
-use Rattle.text.proofs.Walks.{goes_on}
+use Rattle.text.proofs.Walks.{goes_on_lem}
 
 -- the walk passes a run of sequences
-pub passed : {q : List ℕ} → Sequences q → (at : ℕ) (t : List ℕ) → textFrom at 0 (q ++ t) ≡ textFrom (at + length q) 0 t
+pub passed : {q : List ℕ} → Sequences q → (at : ℕ) (t : List ℕ) → text_from at 0 (q ++ t) ≡ text_from (at + length q) 0 t
 passed none at t = rw add-zero
 passed (more {q} {s} m h r) at t =
     rw (append_assoc, length-append, ← add_assoc at (length q) (length s))
-    (goes_on at (length q) (q ++ (s ++ t)) (sequence-bytes m h) (sequence-taken m h (s ++ t))
-    ∙ ap (textFrom (at + length q) 0) (drop-append_seam q (s ++ t))
+    (goes_on_lem at (length q) (q ++ (s ++ t)) (sequence-bytes m h) (sequence-taken m h (s ++ t))
+    ∙ ap (text_from (at + length q) 0) (drop-append_seam q (s ++ t))
     ∙ passed r (at + length q) t)
 
 pub join : {a b : List ℕ} → Sequences a → Sequences b → Sequences (a ++ b)
@@ -53,7 +53,7 @@ ahead at n s f (IllFormed k) r = (n + r.0, omega arith, later r.0 r.2)
         record {
           inside = omega (arith, length-drop n s);
           before = rw (take-add n j s) (more f.listed f.made b.before);
-          none-there = λ l q t m h e. b.none-there l q t m h (drop-drop j n s ∙ e);
+          none_there = λ l q t m h e. b.none_there l q t m h (drop-drop j n s ∙ e);
         }
 
 here : (b : ℕ) (s : List ℕ) → sequence (b ∷ s) ≡ 0 → Breaks (b ∷ s) 0
@@ -61,22 +61,22 @@ here b s e =
     record {
       inside = omega arith;
       before = none;
-      none-there = λ l q t m h w. omega (arith, sequence-bytes m h, sequence-taken m h t, ap sequence w);
+      none_there = λ l q t m h w. omega (arith, sequence-bytes m h, sequence-taken m h t, ap sequence w);
     }
 
-pub judged : (at n : ℕ) (s : List ℕ) → Judged (at + n) (drop n s) (textFrom at n s)
-unfolding textFrom
+pub judged : (at n : ℕ) (s : List ℕ) → Judged (at + n) (drop n s) (text_from at n s)
+unfolding text_from
 judged at zero [] = none
 judged at (suc n) [] = none
 judged at (suc n) (b ∷ s) =
     let k : suc at + n ≡ at + suc n = omega arith in
-    subst (λ (i : ℕ). Judged i (drop n s) (textFrom (suc at) n s)) k (judged (suc at) n s)
+    subst (λ (i : ℕ). Judged i (drop n s) (text_from (suc at) n s)) k (judged (suc at) n s)
 judged at zero (b ∷ s) = go (sequence (b ∷ s)) refl (λ n. judged (suc at) n s)
   where
-    go : (k : ℕ) → sequence (b ∷ s) ≡ k → ((n : ℕ) → Judged (suc at + n) (drop n s) (textFrom (suc at) n s))
-        → Judged (at + 0) (b ∷ s) (begins k at (λ n. textFrom (suc at) n s))
+    go : (k : ℕ) → sequence (b ∷ s) ≡ k → ((n : ℕ) → Judged (suc at + n) (drop n s) (text_from (suc at) n s))
+        → Judged (at + 0) (b ∷ s) (begins k at (λ n. text_from (suc at) n s))
     go zero q r = (0, omega arith, here b s q)
     go (suc n) q r =
         let k : suc at + n ≡ at + 0 + suc n = omega arith in
-        ahead (at + 0) (suc n) (b ∷ s) (front (b ∷ s) (suc n) q (omega arith)) (textFrom (suc at) n s)
-        (subst (λ (i : ℕ). Judged i (drop n s) (textFrom (suc at) n s)) k (r n))
+        ahead (at + 0) (suc n) (b ∷ s) (front (b ∷ s) (suc n) q (omega arith)) (text_from (suc at) n s)
+        (subst (λ (i : ℕ). Judged i (drop n s) (text_from (suc at) n s)) k (r n))

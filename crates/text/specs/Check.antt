@@ -29,16 +29,16 @@ begins zero at rest = IllFormed at
 begins (suc n) at rest = rest n
 
 -- the answer for the bytes from the offset `at` on, the first n of which belong to a sequence that began before
-unfoldable pub textFrom : ℕ → ℕ → List ℕ → Text
-textFrom at n [] = WellFormed
-textFrom at (suc n) (b ∷ s) = textFrom (suc at) n s
-textFrom at zero (b ∷ s) = begins (sequence (b ∷ s)) at (λ n. textFrom (suc at) n s)
+unfoldable pub text_from : ℕ → ℕ → List ℕ → Text
+text_from at n [] = WellFormed
+text_from at (suc n) (b ∷ s) = text_from (suc at) n s
+text_from at zero (b ∷ s) = begins (sequence (b ∷ s)) at (λ n. text_from (suc at) n s)
 
 -- "the offset of the first byte of the first ill-formed sequence": a sequence cut short is named by its first byte
 unfoldable pub text_of : List ℕ → Text
-text_of s = textFrom 0 0 s
+text_of s = text_from 0 0 s
 
 -- "Text follows RFC 3629": there is no such sequence
-abbrev pub wellFormed : Text → Bool
-wellFormed WellFormed = true
-wellFormed (IllFormed offset) = false
+abbrev pub well_formed : Text → Bool
+well_formed WellFormed = true
+well_formed (IllFormed offset) = false

@@ -17,4 +17,4 @@ pub data Sequences : List ℕ → Type 0 where
 pub record Breaks (s : List ℕ) (k : ℕ) : Type 0 where
   pub inside : k < length s
   pub before : Sequences (take k s)
-  pub none-there : (l : Line) (q t : List ℕ) → Memᴰ l UTF8-char → Sequence l q → drop k s ≡ q ++ t → ⊥
+  pub none_there : (l : Line) (q t : List ℕ) → Memᴰ l UTF8-char → Sequence l q → drop k s ≡ q ++ t → ⊥

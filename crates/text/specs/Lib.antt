@@ -1,4 +1,4 @@
 pub mod Syntax
 pub mod Check
-pub mod Contracts
+pub mod Inner
 pub mod Grammar

@@ -5,7 +5,7 @@ mod lines;
 mod plain;
 
 ghost use Rattle.std.specs.Prelude.{◌≡◌};
-ghost use Rattle.text.specs.Check.{text_of, wellFormed};
+ghost use Rattle.text.specs.Check.{text_of, well_formed};
 
 pub use answer::Text;
 use lead::Lead;
@@ -44,7 +44,7 @@ pub fn check(s: &[u8]) -> Text
 
 // Whether no sequence is ill formed.
 pub fn is_well_formed(s: &[u8]) -> bool
-    ensures { result ≡ wellFormed (text_of s.now) }
+    ensures { result ≡ well_formed (text_of s.now) }
 {
     match check(s) {
         Text::WellFormed => true,

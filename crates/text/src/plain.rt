@@ -2,7 +2,7 @@
 // its top bit is clear. So a run of them is passed eight at a time: eight bytes are one number of 64 bits, in which the top bits of all eight
 // are asked at once.
 ghost use Rattle.std.specs.Prelude.{◌+◌, ◌*◌, ◌≤◌, ◌<◌, ◌≡◌, length};
-ghost use Rattle.text.specs.Contracts.{number_at, PlainTo};
+ghost use Rattle.text.specs.Inner.{number_at, PlainTo};
 
 use super::lines::is_plain;
 

@@ -13,28 +13,28 @@ use borrow.Author.Tests.{le-leb, lt-leb, lt-ltb, le-ltb}
 use Rattle.wide.specs.declared.wide.Wide.{Wide}
 use Rattle.variable.specs.declared.answer.Read.TheVariants.{Got, Short}
 use Rattle.wide.specs.Number.{bytes_of}
-use Rattle.wide.specs.Words.{wideEnd, wide_of}
-use Rattle.wide.specs.Body.{size_at, bodyValue, rank}
-use Rattle.wide.specs.Family.{behind, hasByte, number_of, hasNumber, byte_of, Coded, is, short, other, longer, body, unmarked, marked, coded, unmarkedForm, form}
+use Rattle.wide.specs.Words.{wide_end, wide_of}
+use Rattle.wide.specs.Body.{size_at, body_value, rank}
+use Rattle.wide.specs.Family.{behind, has_byte, number_of, has_number, byte_of, Coded, is, short, other, longer, body, unmarked, marked, coded, unmarked_form, form}
 use Rattle.wide.specs.Members.{none, unsigned, signed}
-use Rattle.wide.specs.Contracts.{variable}
-use Rattle.variable.specs.Answer.{readAs, read_of}
+use Rattle.wide.specs.Inner.{variable}
+use Rattle.variable.specs.Answer.{read_as, read_of}
 use Rattle.wide.proofs.Numbers.{either, Bytes}
-use Rattle.wide.proofs.Nearness.{behind-up, behind-round, behind-zero}
-use Rattle.wide.proofs.Ranks.{bool_case, size_low, size-high}
+use Rattle.wide.proofs.Nearness.{behind_up, behind_round, behind_zero}
+use Rattle.wide.proofs.Ranks.{bool_case, size_low, size_high}
 use Rattle.wide.proofs.Families.{cond_yes, cond_no, coded-marked}
 
 -- ---- the numbers of direct bytes
 
-pub number-plain : (b : ℕ) → b < 256 → (wideEnd - 0 + b) % wideEnd ≡ number_of unsigned.direct b
+pub number-plain : (b : ℕ) → b < 256 → (wide_end - 0 + b) % wide_end ≡ number_of unsigned.direct b
 unfolding behind
 number-plain b h =
-    let e : wideEnd - 0 + b ≡ b + wideEnd = omega arith in
+    let e : wide_end - 0 + b ≡ b + wide_end = omega arith in
     let f : 0 + (b + (256 - 0)) % 256 ≡ b = omega arith in
-    ap (λ (x : ℕ). x % wideEnd) e ∙ add-mod_right b wideEnd ∙ sym (ap (λ (x : ℕ). x % wideEnd) f)
+    ap (λ (x : ℕ). x % wide_end) e ∙ add-mod_right b wide_end ∙ sym (ap (λ (x : ℕ). x % wide_end) f)
 
 -- a byte is direct exactly where no body follows it
-direct-byte : (s : Bool) (b : ℕ) → b < 256 → hasByte (variable s).direct b ≡ not (ltb (behind 256 (variable s).first b) 8)
+direct-byte : (s : Bool) (b : ℕ) → b < 256 → has_byte (variable s).direct b ≡ not (ltb (behind 256 (variable s).first b) 8)
 unfolding behind
 direct-byte true b h =
     either 8 ((b + (256 - 124)) % 256)
@@ -59,7 +59,7 @@ pub size-some : (p k : ℕ) → k ≡ size_at p → p < 8 → 1 ≤ k
 size-some p k e h = omega (arith, size_low p h)
 
 pub size_few : (p k : ℕ) → k ≡ size_at p → p < 8 → k ≤ 16
-size_few p k e h = omega (arith, size-high p h)
+size_few p k e h = omega (arith, size_high p h)
 
 pub none_before : (s : Bool) (bs : List ℕ) → coded (variable s) bs ≡ unmarked (variable s) bs
 unfolding marked
@@ -76,28 +76,28 @@ every_byte s (b ∷ bs) h e =
     let o : ℕ = behind 256 (variable s).first b in
     bool_case (ltb o 8)
     (λ l. bool_case (leb (size_at o) (length bs))
-    (λ k. yes-no (sym (none_before s (b ∷ bs) ∙ cond_no (hasByte (variable s).direct b) _ _ (direct-byte s b h.0 ∙ ap not l) ∙ cond_yes (ltb o 8) _ other l
+    (λ k. yes_no (sym (none_before s (b ∷ bs) ∙ cond_no (has_byte (variable s).direct b) _ _ (direct-byte s b h.0 ∙ ap not l) ∙ cond_yes (ltb o 8) _ other l
     ∙ ap longer (cond_yes (leb (size_at o) (length bs)) _ short k)) ∙ e))
-    (λ k. short-no (sym (none_before s (b ∷ bs) ∙ cond_no (hasByte (variable s).direct b) _ _ (direct-byte s b h.0 ∙ ap not l) ∙ cond_yes (ltb o 8) _ other l
+    (λ k. short_no (sym (none_before s (b ∷ bs) ∙ cond_no (has_byte (variable s).direct b) _ _ (direct-byte s b h.0 ∙ ap not l) ∙ cond_yes (ltb o 8) _ other l
     ∙ ap longer (cond_no (leb (size_at o) (length bs)) _ short k)) ∙ e)))
-    (λ l. yes-no (sym (none_before s (b ∷ bs) ∙ cond_yes (hasByte (variable s).direct b) _ _ (direct-byte s b h.0 ∙ ap not l)) ∙ e))
+    (λ l. yes_no (sym (none_before s (b ∷ bs) ∙ cond_yes (has_byte (variable s).direct b) _ _ (direct-byte s b h.0 ∙ ap not l)) ∙ e))
   where
-    yes-no : {n u : ℕ} → is n u ≡ other → ⊥
-    yes-no q = let z : ◌≡◌ {A = ℕ} 0 1 = cc in omega arith
+    yes_no : {n u : ℕ} → is n u ≡ other → ⊥
+    yes_no q = let z : ◌≡◌ {A = ℕ} 0 1 = cc in omega arith
 
-    short-no : short ≡ other → ⊥
-    short-no q = let z : ◌≡◌ {A = ℕ} 0 1 = cc in omega arith
+    short_no : short ≡ other → ⊥
+    short_no q = let z : ◌≡◌ {A = ℕ} 0 1 = cc in omega arith
 
 module _ (s : Bool) where
-  read-front : (b : ℕ) (bs : List ℕ) (p : ℕ) → b < 256 → p ≡ behind 256 (variable s).first b → p < 8
-      → read_of (variable s) (b ∷ bs) ≡ readAs (longer (body (variable s).signed (size_at p) bs))
+  read_front : (b : ℕ) (bs : List ℕ) (p : ℕ) → b < 256 → p ≡ behind 256 (variable s).first b → p < 8
+      → read_of (variable s) (b ∷ bs) ≡ read_as (longer (body (variable s).signed (size_at p) bs))
   unfolding read_of unmarked
-  read-front b bs p h e l =
+  read_front b bs p h e l =
       let t : ltb (behind 256 (variable s).first b) 8 ≡ true = lt-ltb (behind 256 (variable s).first b) 8 (omega arith) in
-      ap readAs (none_before s (b ∷ bs)
-      ∙ cond_no (hasByte (variable s).direct b) _ _ (direct-byte s b h ∙ ap not t)
+      ap read_as (none_before s (b ∷ bs)
+      ∙ cond_no (has_byte (variable s).direct b) _ _ (direct-byte s b h ∙ ap not t)
       ∙ cond_yes (ltb (behind 256 (variable s).first b) 8) _ other t)
-      ∙ ap (λ (j : ℕ). readAs (longer (body (variable s).signed (size_at j) bs))) (sym e)
+      ∙ ap (λ (j : ℕ). read_as (longer (body (variable s).signed (size_at j) bs))) (sym e)
 
   pub read_none : (bs : List ℕ) → length bs < 1 → Short ≡ read_of (variable s) bs
   unfolding read_of coded
@@ -108,65 +108,65 @@ module _ (s : Bool) where
       → k ≡ size_at p → length bs - 1 < k → Short ≡ read_of (variable s) bs
   read_short [] p k o h e l g m = absurd (not-suc-le-zero o)
   read_short (b ∷ bs) p k o h e l g m =
-      sym (read-front b bs p h e l ∙ ap (λ (c : Coded). readAs (longer c)) (cond_no (leb (size_at p) (length bs)) _ short (lt-leb (size_at p) (length bs) (omega arith))))
+      sym (read_front b bs p h e l ∙ ap (λ (c : Coded). read_as (longer c)) (cond_no (leb (size_at p) (length bs)) _ short (lt-leb (size_at p) (length bs) (omega arith))))
 
-  pub read-long : (bs : List ℕ) (p k : ℕ) (w : Wide) → 1 ≤ length bs → get_or bs 0 0 < 256 → p ≡ behind 256 (variable s).first (get_or bs 0 0) → p < 8
-      → k ≡ size_at p → k ≤ length bs - 1 → w ≡ wide_of (bodyValue s (take k (drop 1 bs))) → Got w (k + 1) ≡ read_of (variable s) bs
-  read-long [] p k w o h e l g m v = absurd (not-suc-le-zero o)
-  read-long (b ∷ bs) p k w o h e l g m v =
-      ap₂ Got (v ∙ ap₂ (λ (t : Bool) (j : ℕ). wide_of (bodyValue t (take j bs))) (sym (signed_of s)) g) (add-one k ∙ ap suc g)
-      ∙ sym (read-front b bs p h e l ∙ ap (λ (c : Coded). readAs (longer c)) (cond_yes (leb (size_at p) (length bs)) _ short (le-leb (size_at p) (length bs) (omega arith))))
+  pub read_long : (bs : List ℕ) (p k : ℕ) (w : Wide) → 1 ≤ length bs → get_or bs 0 0 < 256 → p ≡ behind 256 (variable s).first (get_or bs 0 0) → p < 8
+      → k ≡ size_at p → k ≤ length bs - 1 → w ≡ wide_of (body_value s (take k (drop 1 bs))) → Got w (k + 1) ≡ read_of (variable s) bs
+  read_long [] p k w o h e l g m v = absurd (not-suc-le-zero o)
+  read_long (b ∷ bs) p k w o h e l g m v =
+      ap₂ Got (v ∙ ap₂ (λ (t : Bool) (j : ℕ). wide_of (body_value t (take j bs))) (sym (signed_of s)) g) (add-one k ∙ ap suc g)
+      ∙ sym (read_front b bs p h e l ∙ ap (λ (c : Coded). read_as (longer c)) (cond_yes (leb (size_at p) (length bs)) _ short (le-leb (size_at p) (length bs) (omega arith))))
 
-  pub read-direct : (bs : List ℕ) (p : ℕ) (w : Wide) → 1 ≤ length bs → get_or bs 0 0 < 256 → p ≡ behind 256 (variable s).first (get_or bs 0 0) → 8 ≤ p
+  pub read_direct : (bs : List ℕ) (p : ℕ) (w : Wide) → 1 ≤ length bs → get_or bs 0 0 < 256 → p ≡ behind 256 (variable s).first (get_or bs 0 0) → 8 ≤ p
       → w ≡ wide_of (number_of (variable s).direct (get_or bs 0 0)) → Got w 1 ≡ read_of (variable s) bs
   unfolding read_of unmarked
-  read-direct [] p w o h e l v = absurd (not-suc-le-zero o)
-  read-direct (b ∷ bs) p w o h e l v =
+  read_direct [] p w o h e l v = absurd (not-suc-le-zero o)
+  read_direct (b ∷ bs) p w o h e l v =
       let t : ltb (behind 256 (variable s).first b) 8 ≡ false = le-ltb (behind 256 (variable s).first b) 8 (omega arith) in
       ap (λ (x : Wide). Got x 1) v
-      ∙ sym (ap readAs (none_before s (b ∷ bs) ∙ cond_yes (hasByte (variable s).direct b) _ _ (direct-byte s b h ∙ ap not t)))
+      ∙ sym (ap read_as (none_before s (b ∷ bs) ∙ cond_yes (has_byte (variable s).direct b) _ _ (direct-byte s b h ∙ ap not t)))
 
 -- ---- writing, by each way out
 
-byte-plain : (n : ℕ) → n < wideEnd → byte_of unsigned.direct n ≡ n % 256
+byte-plain : (n : ℕ) → n < wide_end → byte_of unsigned.direct n ≡ n % 256
 byte-plain n h =
     let e : 0 + (n + 0) ≡ n = omega arith in
-    ap (λ (x : ℕ). (0 + x) % 256) (sym (behind-zero n) ∙ behind-up 0 n (lit≤ tt) (omega arith)) ∙ ap (λ (x : ℕ). x % 256) e
+    ap (λ (x : ℕ). (0 + x) % 256) (sym (behind_zero n) ∙ behind_up 0 n (lit≤ tt) (omega arith)) ∙ ap (λ (x : ℕ). x % 256) e
 
-whole-bytes : wideEnd ≡ 256 * 2 ^ 120
-unfolding wideEnd
+whole-bytes : wide_end ≡ 256 * 2 ^ 120
+unfolding wide_end
 whole-bytes = refl
 
--- going round at wideEnd leaves the low byte
-round-byte : (n m c : ℕ) → m ≡ 256 * c → n < m → m ≤ n + 124 → (0x84 + (n + 124 - m)) % 256 ≡ n % 256
-round-byte n m c e h l = omega arith
+-- going round at wide_end leaves the low byte
+round_byte : (n m c : ℕ) → m ≡ 256 * c → n < m → m ≤ n + 124 → (0x84 + (n + 124 - m)) % 256 ≡ n % 256
+round_byte n m c e h l = omega arith
 
 near_byte : (n : ℕ) → (0x84 + (n + 124)) % 256 ≡ n % 256
 near_byte n = omega arith
 
-byte_signed : (n : ℕ) → n < wideEnd → byte_of signed.direct n ≡ n % 256
+byte_signed : (n : ℕ) → n < wide_end → byte_of signed.direct n ≡ n % 256
 byte_signed n h =
-    either wideEnd (n + 124)
-    (λ l. ap (λ (x : ℕ). (0x84 + x) % 256) (behind-round 124 n (lit≤ tt) h l) ∙ round-byte n wideEnd (2 ^ 120) whole-bytes h l)
-    (λ l. ap (λ (x : ℕ). (0x84 + x) % 256) (behind-up 124 n (lit≤ tt) l) ∙ near_byte n)
+    either wide_end (n + 124)
+    (λ l. ap (λ (x : ℕ). (0x84 + x) % 256) (behind_round 124 n (lit≤ tt) h l) ∙ round_byte n wide_end (2 ^ 120) whole-bytes h l)
+    (λ l. ap (λ (x : ℕ). (0x84 + x) % 256) (behind_up 124 n (lit≤ tt) l) ∙ near_byte n)
 
-low_byte : (s : Bool) (n : ℕ) → n < wideEnd → byte_of (variable s).direct n ≡ n % 256
+low_byte : (s : Bool) (n : ℕ) → n < wide_end → byte_of (variable s).direct n ≡ n % 256
 low_byte true n h = byte_signed n h
 low_byte false n h = byte-plain n h
 
-unmarked-whole : (s : Bool) (n : ℕ) → form (variable s) n ≡ unmarkedForm (variable s) n
+unmarked-whole : (s : Bool) (n : ℕ) → form (variable s) n ≡ unmarked_form (variable s) n
 unfolding form
-unmarked-whole true n = cond_no (hasNumber none n) _ _ (le-ltb (behind wideEnd 0 n) 0 (omega arith))
-unmarked-whole false n = cond_no (hasNumber none n) _ _ (le-ltb (behind wideEnd 0 n) 0 (omega arith))
+unmarked-whole true n = cond_no (has_number none n) _ _ (le-ltb (behind wide_end 0 n) 0 (omega arith))
+unmarked-whole false n = cond_no (has_number none n) _ _ (le-ltb (behind wide_end 0 n) 0 (omega arith))
 
-module _ (s : Bool) (n : ℕ) (small : n < wideEnd) where
-  pub form-one : (t : Bool) (b : ℕ) → t ≡ hasNumber (variable s).direct n → t ≡ true → b ≡ n % 256 → form (variable s) n ≡ b ∷ []
-  unfolding unmarkedForm
+module _ (s : Bool) (n : ℕ) (small : n < wide_end) where
+  pub form-one : (t : Bool) (b : ℕ) → t ≡ has_number (variable s).direct n → t ≡ true → b ≡ n % 256 → form (variable s) n ≡ b ∷ []
+  unfolding unmarked_form
   form-one t b e h g =
-      unmarked-whole s n ∙ cond_yes (hasNumber (variable s).direct n) _ _ (sym e ∙ h) ∙ ap (λ (x : ℕ). x ∷ []) (low_byte s n small ∙ sym g)
+      unmarked-whole s n ∙ cond_yes (has_number (variable s).direct n) _ _ (sym e ∙ h) ∙ ap (λ (x : ℕ). x ∷ []) (low_byte s n small ∙ sym g)
 
-  pub form-long : (t : Bool) (j k f : ℕ) → t ≡ hasNumber (variable s).direct n → t ≡ false → j ≡ rank s n → k ≡ size_at j → f ≡ (variable s).first
+  pub form-long : (t : Bool) (j k f : ℕ) → t ≡ has_number (variable s).direct n → t ≡ false → j ≡ rank s n → k ≡ size_at j → f ≡ (variable s).first
       → form (variable s) n ≡ (f + j) ∷ bytes_of k n
-  unfolding unmarkedForm
+  unfolding unmarked_form
   form-long t j k f e h g d c =
-      unmarked-whole s n ∙ cond_no (hasNumber (variable s).direct n) _ _ (sym e ∙ h) ∙ cc (signed_of s)
+      unmarked-whole s n ∙ cond_no (has_number (variable s).direct n) _ _ (sym e ∙ h) ∙ cc (signed_of s)

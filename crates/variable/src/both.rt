@@ -1,9 +1,9 @@
 // The variable integers of both signs.
 ghost use Rattle.std.specs.Prelude.{◌≡◌, ◌%◌, length};
 ghost use Rattle.wide.specs.Words.{value_of, wide_of};
-ghost use Rattle.wide.specs.Family.{behind, number_of, hasNumber, form};
-ghost use Rattle.wide.specs.Contracts.{variable};
-ghost use Rattle.variable.specs.Answer.{read_of, written_of, outputOf};
+ghost use Rattle.wide.specs.Family.{behind, number_of, has_number, form};
+ghost use Rattle.wide.specs.Inner.{variable};
+ghost use Rattle.variable.specs.Answer.{read_of, written_of, output_of};
 
 use crate::answer::{Read, Written};
 use wide::{Wide, body, near, size};
@@ -58,7 +58,7 @@ pub fn read(s: &[u8], signed: bool) -> Read
 
 // Whether a byte alone is the number.
 fn is_direct(w: Wide, signed: bool) -> bool
-    ensures { result ≡ hasNumber (variable signed).direct (value_of w) }
+    ensures { result ≡ has_number (variable signed).direct (value_of w) }
 {
     if signed {
         return near::is_near(w, 124, 124);
@@ -76,7 +76,7 @@ fn low(w: Wide) -> u8
 // A variable integer, shortest, at the front of an output.
 pub fn write(out: &mut [u8], w: Wide, signed: bool) -> Written
     ensures value { result ≡ written_of (form (variable signed) (value_of w)) (length out.old) }
-    ensures out_after { out.new ≡ outputOf (form (variable signed) (value_of w)) out.old }
+    ensures out_after { out.new ≡ output_of (form (variable signed) (value_of w)) out.old }
 {
     if is_direct(w, signed) {
         if out.len() < 1 {

@@ -3,7 +3,7 @@ ghost use Rattle.std.specs.Prelude.{◌≡◌, length};
 ghost use Rattle.wide.specs.Words.{value_of};
 ghost use Rattle.wide.specs.Family.{form};
 ghost use Rattle.wide.specs.Members.{signed, unsigned};
-ghost use Rattle.variable.specs.Answer.{read_of, written_of, outputOf};
+ghost use Rattle.variable.specs.Answer.{read_of, written_of, output_of};
 
 pub mod answer;
 mod both;
@@ -29,7 +29,7 @@ pub fn read_signed(s: &[u8]) -> Read
 // `w` as an unsigned variable integer, shortest, at the front of `out`.
 pub fn write_unsigned(out: &mut [u8], w: Wide) -> Written
     ensures value { result ≡ written_of (form unsigned (value_of w)) (length out.old) }
-    ensures out_after { out.new ≡ outputOf (form unsigned (value_of w)) out.old }
+    ensures out_after { out.new ≡ output_of (form unsigned (value_of w)) out.old }
 {
     both::write(out, w, false)
 }
@@ -37,7 +37,7 @@ pub fn write_unsigned(out: &mut [u8], w: Wide) -> Written
 // `w` as a signed variable integer, shortest, at the front of `out`.
 pub fn write_signed(out: &mut [u8], w: Wide) -> Written
     ensures value { result ≡ written_of (form signed (value_of w)) (length out.old) }
-    ensures out_after { out.new ≡ outputOf (form signed (value_of w)) out.old }
+    ensures out_after { out.new ≡ output_of (form signed (value_of w)) out.old }
 {
     both::write(out, w, true)
 }

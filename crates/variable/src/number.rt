@@ -1,6 +1,6 @@
 // The paper's numbers for an answer.
 ghost use Rattle.std.specs.Prelude.{◌≡◌};
-ghost use Rattle.variable.specs.Answer.{readNumber, readValue, readUsed, codedNumber, codedBeside};
+ghost use Rattle.variable.specs.Answer.{read_number, read_value, read_used, coded_number, coded_beside};
 
 use crate::answer::{Read, Written};
 use wide::Wide;
@@ -8,7 +8,7 @@ use wide::Wide;
 impl Read {
     // 0, or the refusal's number.
     pub fn number(self) -> u32
-        ensures { result ≡ readNumber self }
+        ensures { result ≡ read_number self }
     {
         match self {
             Read::Got { value: _, used: _ } => 0,
@@ -18,7 +18,7 @@ impl Read {
 
     // The value, 0 under a refusal.
     pub fn value(self) -> Wide
-        ensures { result ≡ readValue self }
+        ensures { result ≡ read_value self }
     {
         match self {
             Read::Got { value, used: _ } => value,
@@ -33,7 +33,7 @@ impl Read {
 
     // The bytes used, 0 under a refusal.
     pub fn used(self) -> usize
-        ensures { result ≡ readUsed self }
+        ensures { result ≡ read_used self }
     {
         match self {
             Read::Got { value: _, used } => used,
@@ -45,7 +45,7 @@ impl Read {
 impl Written {
     // 0, or the refusal's number.
     pub fn number(self) -> u32
-        ensures { result ≡ codedNumber self }
+        ensures { result ≡ coded_number self }
     {
         match self {
             Written::Done { used: _ } => 0,
@@ -55,7 +55,7 @@ impl Written {
 
     // The bytes written, or needed.
     pub fn beside(self) -> usize
-        ensures { result ≡ codedBeside self }
+        ensures { result ≡ coded_beside self }
     {
         match self {
             Written::Done { used } => used,

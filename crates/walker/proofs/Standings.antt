@@ -10,11 +10,11 @@ use mir.Syntax.{w64}
 use mir.Val.{Fits}
 use Rattle.lists.proofs.Tests.{and_first, and_second}
 use Rattle.rows.specs.declared.row.Row.{Row}
-use Rattle.rows.specs.Table.{rowAt, lent}
-use Rattle.rows.specs.Kinds.{kindReference}
+use Rattle.rows.specs.Table.{row_at, lent}
+use Rattle.rows.specs.Kinds.{kind_reference}
 use Rattle.walker.specs.declared.step.Step.{Step}
 use Rattle.walker.specs.declared.step.Step.TheVariants.{To, NoStep, BadTable}
-use Rattle.walker.specs.Walk.{standing, genuine, stepIn, stepOn, stepAlong, stepStanding}
+use Rattle.walker.specs.Walk.{standing, genuine, step_in, step_on, step_along, step_standing}
 
 -- ---- whether a standing is genuine
 
@@ -29,32 +29,32 @@ module _ (table : List ℕ) (n row bound : ℕ) (l : ℕ) (is : l ≡ lent table
     row_out h = rw (le-leb n (lent table) (omega arith), le-ltb row n h)
 
     module _ (within : row < n) where
-      pub bound-low : bound ≤ row → false ≡ genuine table n row bound
+      pub bound_low : bound ≤ row → false ≡ genuine table n row bound
       unfolding genuine
-      bound-low h = rw (le-leb n (lent table) (omega arith), lt-ltb row n within, le-ltb row bound h)
+      bound_low h = rw (le-leb n (lent table) (omega arith), lt-ltb row n within, le-ltb row bound h)
 
       module _ (above : row < bound) where
-        pub bound-high : n < bound → false ≡ genuine table n row bound
+        pub bound_high : n < bound → false ≡ genuine table n row bound
         unfolding genuine
-        bound-high h = rw (le-leb n (lent table) (omega arith), lt-ltb row n within, lt-ltb row bound above, lt-leb bound n h)
+        bound_high h = rw (le-leb n (lent table) (omega arith), lt-ltb row n within, lt-ltb row bound above, lt-leb bound n h)
 
-        module _ (bounded : bound ≤ n) (e w : ℕ) (end : w ≡ (rowAt table row).end) (as_number : e ≡ w) where
+        module _ (bounded : bound ≤ n) (e w : ℕ) (end : w ≡ (row_at table row).end) (as_number : e ≡ w) where
           pub end_low : e ≤ row → false ≡ genuine table n row bound
           unfolding genuine
           end_low h =
-              rw (le-leb n (lent table) (omega arith), lt-ltb row n within, lt-ltb row bound above, le-leb bound n bounded, le-ltb row (rowAt table row).end (omega arith))
+              rw (le-leb n (lent table) (omega arith), lt-ltb row n within, lt-ltb row bound above, le-leb bound n bounded, le-ltb row (row_at table row).end (omega arith))
 
-          pub end-decides : row < e → leb e bound ≡ genuine table n row bound
+          pub end_decides : row < e → leb e bound ≡ genuine table n row bound
           unfolding genuine
-          end-decides h =
-              rw (le-leb n (lent table) (omega arith), lt-ltb row n within, lt-ltb row bound above, le-leb bound n bounded, lt-ltb row (rowAt table row).end (omega arith))
+          end_decides h =
+              rw (le-leb n (lent table) (omega arith), lt-ltb row n within, lt-ltb row bound above, le-leb bound n bounded, lt-ltb row (row_at table row).end (omega arith))
               (ap (λ (x : ℕ). leb x bound) (as_number ∙ end))
 
 -- ---- what a genuine standing has
 
 module _ (table : List ℕ) (n row bound : ℕ) (g : Bool) (is : g ≡ genuine table n row bound) (yes : g ≡ true) where
   abbrev T₅ : Bool
-  T₅ = ltb row (rowAt table row).end && leb (rowAt table row).end bound
+  T₅ = ltb row (row_at table row).end && leb (row_at table row).end bound
 
   abbrev T₄ : Bool
   T₄ = leb bound n && T₅
@@ -98,59 +98,59 @@ module _ (table : List ℕ) (n row bound : ℕ) (g : Bool) (is : g ≡ genuine t
 
   -- ---- the steps
 
-  module _ (e w : ℕ) (end : w ≡ (rowAt table row).end) (as_number : e ≡ w) where
-    pub in-yes : row + 1 < e → To (row + 1) e ≡ stepIn table n (standing row bound)
-    unfolding stepIn
-    in-yes h = let q : e ≡ (rowAt table row).end = as_number ∙ end in rw (← is, yes, ← q, lt-ltb (row + 1) e h)
+  module _ (e w : ℕ) (end : w ≡ (row_at table row).end) (as_number : e ≡ w) where
+    pub in_yes : row + 1 < e → To (row + 1) e ≡ step_in table n (standing row bound)
+    unfolding step_in
+    in_yes h = let q : e ≡ (row_at table row).end = as_number ∙ end in rw (← is, yes, ← q, lt-ltb (row + 1) e h)
 
-    pub in-none : e ≤ row + 1 → NoStep ≡ stepIn table n (standing row bound)
-    unfolding stepIn
-    in-none h = let q : e ≡ (rowAt table row).end = as_number ∙ end in rw (← is, yes, ← q, le-ltb (row + 1) e h)
+    pub in_none : e ≤ row + 1 → NoStep ≡ step_in table n (standing row bound)
+    unfolding step_in
+    in_none h = let q : e ≡ (row_at table row).end = as_number ∙ end in rw (← is, yes, ← q, le-ltb (row + 1) e h)
 
-    pub on-yes : e < bound → To e bound ≡ stepOn table n (standing row bound)
-    unfolding stepOn
-    on-yes h = let q : e ≡ (rowAt table row).end = as_number ∙ end in rw (← is, yes, ← q, lt-ltb e bound h)
+    pub on_yes : e < bound → To e bound ≡ step_on table n (standing row bound)
+    unfolding step_on
+    on_yes h = let q : e ≡ (row_at table row).end = as_number ∙ end in rw (← is, yes, ← q, lt-ltb e bound h)
 
-    pub on_none : bound ≤ e → NoStep ≡ stepOn table n (standing row bound)
-    unfolding stepOn
-    on_none h = let q : e ≡ (rowAt table row).end = as_number ∙ end in rw (← is, yes, ← q, le-ltb e bound h)
+    pub on_none : bound ≤ e → NoStep ≡ step_on table n (standing row bound)
+    unfolding step_on
+    on_none h = let q : e ≡ (row_at table row).end = as_number ∙ end in rw (← is, yes, ← q, le-ltb e bound h)
 
-  module _ (r : Row) (at : r ≡ rowAt table row) where
-    pub along-none : (r.kind ≡ kindReference → ⊥) → NoStep ≡ stepAlong table n (standing row bound)
-    unfolding stepAlong
-    along-none h = rw (← is, yes, ← at, ne_eqb r.kind kindReference h)
+  module _ (r : Row) (at : r ≡ row_at table row) where
+    pub along_none : (r.kind ≡ kind_reference → ⊥) → NoStep ≡ step_along table n (standing row bound)
+    unfolding step_along
+    along_none h = rw (← is, yes, ← at, ne_eqb r.kind kind_reference h)
 
-    module _ (refers : r.kind ≡ kindReference) (entry : ℕ) (names : entry ≡ r.w1) where
-      pub along-yes : (e w : ℕ) → w ≡ (rowAt table entry).end → e ≡ w → entry < row → To entry e ≡ stepAlong table n (standing row bound)
-      unfolding stepAlong
-      along-yes e w f g h = let q : e ≡ (rowAt table entry).end = g ∙ f in rw (← is, yes, ← at, eq-eqb r.kind kindReference refers, ← names, lt-ltb entry row h, ← q)
+    module _ (refers : r.kind ≡ kind_reference) (entry : ℕ) (names : entry ≡ r.w1) where
+      pub along_yes : (e w : ℕ) → w ≡ (row_at table entry).end → e ≡ w → entry < row → To entry e ≡ step_along table n (standing row bound)
+      unfolding step_along
+      along_yes e w f g h = let q : e ≡ (row_at table entry).end = g ∙ f in rw (← is, yes, ← at, eq-eqb r.kind kind_reference refers, ← names, lt-ltb entry row h, ← q)
 
-      pub along-bad : row ≤ entry → BadTable ≡ stepAlong table n (standing row bound)
-      unfolding stepAlong
-      along-bad h = rw (← is, yes, ← at, eq-eqb r.kind kindReference refers, ← names, le-ltb entry row h)
+      pub along_bad : row ≤ entry → BadTable ≡ step_along table n (standing row bound)
+      unfolding step_along
+      along_bad h = rw (← is, yes, ← at, eq-eqb r.kind kind_reference refers, ← names, le-ltb entry row h)
 
 -- ---- a forged one
 
 module _ (table : List ℕ) (n row bound : ℕ) (g : Bool) (is : g ≡ genuine table n row bound) (no : g ≡ false) where
-  pub in-forged : BadTable ≡ stepIn table n (standing row bound)
-  unfolding stepIn
-  in-forged = rw (← is, no)
+  pub in_forged : BadTable ≡ step_in table n (standing row bound)
+  unfolding step_in
+  in_forged = rw (← is, no)
 
-  pub on-forged : BadTable ≡ stepOn table n (standing row bound)
-  unfolding stepOn
-  on-forged = rw (← is, no)
+  pub on_forged : BadTable ≡ step_on table n (standing row bound)
+  unfolding step_on
+  on_forged = rw (← is, no)
 
-  pub along-forged : BadTable ≡ stepAlong table n (standing row bound)
-  unfolding stepAlong
-  along-forged = rw (← is, no)
+  pub along_forged : BadTable ≡ step_along table n (standing row bound)
+  unfolding step_along
+  along_forged = rw (← is, no)
 
 -- ---- the answers' numbers
 
-pub standing-to : (x : Step) (row bound : ℕ) → x ≡ To row bound → standing row bound ≡ stepStanding x
-standing-to x row bound e = ap stepStanding (sym e)
+pub standing_to : (x : Step) (row bound : ℕ) → x ≡ To row bound → standing row bound ≡ step_standing x
+standing_to x row bound e = ap step_standing (sym e)
 
-pub standing-none : (x : Step) → x ≡ NoStep → standing 0 0 ≡ stepStanding x
-standing-none x e = ap stepStanding (sym e)
+pub standing-none : (x : Step) → x ≡ NoStep → standing 0 0 ≡ step_standing x
+standing-none x e = ap step_standing (sym e)
 
-pub standing-bad : (x : Step) → x ≡ BadTable → standing 0 0 ≡ stepStanding x
-standing-bad x e = ap stepStanding (sym e)
+pub standing-bad : (x : Step) → x ≡ BadTable → standing 0 0 ≡ step_standing x
+standing-bad x e = ap step_standing (sym e)

@@ -1,8 +1,8 @@
 -- Steps from a standing, on any table. Assumes nothing: these are definitions.
 use Rattle.std.specs.Prelude.{ℕ, ◌+◌, Bool, cond, ◌&&◌, List, ltb, leb, eqb}
 use Rattle.rows.specs.declared.row.Row.{Row}
-use Rattle.rows.specs.Table.{rowAt, lent}
-use Rattle.rows.specs.Kinds.{kindReference}
+use Rattle.rows.specs.Table.{row_at, lent}
+use Rattle.rows.specs.Kinds.{kind_reference}
 use Rattle.walker.specs.declared.standing.Standing.{Standing}
 use Rattle.walker.specs.declared.step.Step.{Step}
 use Rattle.walker.specs.declared.step.Step.TheVariants.{To, NoStep, BadTable}
@@ -18,7 +18,7 @@ start_of n = standing 0 n
 -- not in row + 1..bound": true where it is not
 unfoldable pub genuine : List ℕ → ℕ → ℕ → ℕ → Bool
 genuine table n row bound =
-    leb n (lent table) && (ltb row n && (ltb row bound && (leb bound n && (ltb row (rowAt table row).end && leb (rowAt table row).end bound))))
+    leb n (lent table) && (ltb row n && (ltb row bound && (leb bound n && (ltb row (row_at table row).end && leb (row_at table row).end bound))))
 
 -- "12, asked first"
 abbrev pub asked : Bool → Step → Step
@@ -34,24 +34,24 @@ onward bound w = cond (ltb w.end bound) (To w.end bound) NoStep
 
 -- "Along: a reference's entry, bound that entry's end."; "On an unchecked table .. along to a row not below the reference, is 12."
 abbrev pub alongside : List ℕ → ℕ → Row → Step
-alongside table row w = cond (eqb w.kind kindReference) (cond (ltb w.w1 row) (To w.w1 (rowAt table w.w1).end) BadTable) NoStep
+alongside table row w = cond (eqb w.kind kind_reference) (cond (ltb w.w1 row) (To w.w1 (row_at table w.w1).end) BadTable) NoStep
 
-unfoldable pub stepIn : List ℕ → ℕ → Standing → Step
-stepIn table n at = asked (genuine table n at.row at.bound) (inward at.row (rowAt table at.row))
+unfoldable pub step_in : List ℕ → ℕ → Standing → Step
+step_in table n at = asked (genuine table n at.row at.bound) (inward at.row (row_at table at.row))
 
-unfoldable pub stepOn : List ℕ → ℕ → Standing → Step
-stepOn table n at = asked (genuine table n at.row at.bound) (onward at.bound (rowAt table at.row))
+unfoldable pub step_on : List ℕ → ℕ → Standing → Step
+step_on table n at = asked (genuine table n at.row at.bound) (onward at.bound (row_at table at.row))
 
-unfoldable pub stepAlong : List ℕ → ℕ → Standing → Step
-stepAlong table n at = asked (genuine table n at.row at.bound) (alongside table at.row (rowAt table at.row))
+unfoldable pub step_along : List ℕ → ℕ → Standing → Step
+step_along table n at = asked (genuine table n at.row at.bound) (alongside table at.row (row_at table at.row))
 
 -- the paper's number for each answer; "A refusal gives row, bound and moves 0"
-abbrev pub stepNumber : Step → ℕ
-stepNumber (To row bound) = 0
-stepNumber NoStep = 14
-stepNumber BadTable = 12
+abbrev pub step_number : Step → ℕ
+step_number (To row bound) = 0
+step_number NoStep = 14
+step_number BadTable = 12
 
-abbrev pub stepStanding : Step → Standing
-stepStanding (To row bound) = standing row bound
-stepStanding NoStep = standing 0 0
-stepStanding BadTable = standing 0 0
+abbrev pub step_standing : Step → Standing
+step_standing (To row bound) = standing row bound
+step_standing NoStep = standing 0 0
+step_standing BadTable = standing 0 0

@@ -5,7 +5,7 @@ mod step;
 mod steps;
 
 ghost use Rattle.std.specs.Prelude.{◌≡◌};
-ghost use Rattle.walker.specs.Walk.{start_of, stepIn, stepOn, stepAlong};
+ghost use Rattle.walker.specs.Walk.{start_of, step_in, step_on, step_along};
 
 pub use standing::Standing;
 pub use step::Step;
@@ -20,21 +20,21 @@ pub fn start(n: usize) -> Standing
 
 // In: to the first child.
 pub fn step_in(table: &[u32], n: usize, at: Standing) -> Step
-    ensures { result ≡ stepIn table.now n at }
+    ensures { result ≡ step_in table.now n at }
 {
     steps::in_from(table, n, at.row, at.bound)
 }
 
 // On: to the next child of the same holder.
 pub fn step_on(table: &[u32], n: usize, at: Standing) -> Step
-    ensures { result ≡ stepOn table.now n at }
+    ensures { result ≡ step_on table.now n at }
 {
     steps::on_from(table, n, at.row, at.bound)
 }
 
 // Along: to the entry of a reference.
 pub fn step_along(table: &[u32], n: usize, at: Standing) -> Step
-    ensures { result ≡ stepAlong table.now n at }
+    ensures { result ≡ step_along table.now n at }
 {
     steps::along_from(table, n, at.row, at.bound)
 }

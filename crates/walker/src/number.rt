@@ -1,6 +1,6 @@
 // The paper's numbers for a step.
 ghost use Rattle.std.specs.Prelude.{◌≡◌};
-ghost use Rattle.walker.specs.Walk.{stepNumber, stepStanding};
+ghost use Rattle.walker.specs.Walk.{step_number, step_standing};
 
 use crate::standing::Standing;
 use crate::step::Step;
@@ -8,7 +8,7 @@ use crate::step::Step;
 impl Step {
     // 0, 12 or 14.
     pub fn number(self) -> u32
-        ensures { result ≡ stepNumber self }
+        ensures { result ≡ step_number self }
     {
         match self {
             Step::To { row: _, bound: _ } => 0,
@@ -19,7 +19,7 @@ impl Step {
 
     // The new standing; zeros under a refusal.
     pub fn standing(self) -> Standing
-        ensures { result ≡ stepStanding self }
+        ensures { result ≡ step_standing self }
     {
         match self {
             Step::To { row, bound } => Standing { row, bound },

@@ -1,7 +1,7 @@
 // Steps from a row and a bound.
 ghost use Rattle.std.specs.Prelude.{◌≡◌, ◌<◌};
 ghost use Rattle.rows.specs.Table.{lent};
-ghost use Rattle.walker.specs.Walk.{standing, genuine, stepIn, stepOn, stepAlong};
+ghost use Rattle.walker.specs.Walk.{standing, genuine, step_in, step_on, step_along};
 
 use crate::step::Step;
 use rows::Row;
@@ -31,7 +31,7 @@ fn genuine(table: &[u32], n: usize, row: usize, bound: usize) -> bool
 
 // In, to the first child.
 pub fn in_from(table: &[u32], n: usize, row: usize, bound: usize) -> Step
-    ensures { result ≡ stepIn table.now n (standing row bound) }
+    ensures { result ≡ step_in table.now n (standing row bound) }
 {
     if genuine(table, n, row, bound) {
         let end = rows::number(rows::end_at(table, row));
@@ -48,7 +48,7 @@ pub fn in_from(table: &[u32], n: usize, row: usize, bound: usize) -> Step
 
 // On, to the next child of the same holder.
 pub fn on_from(table: &[u32], n: usize, row: usize, bound: usize) -> Step
-    ensures { result ≡ stepOn table.now n (standing row bound) }
+    ensures { result ≡ step_on table.now n (standing row bound) }
 {
     if genuine(table, n, row, bound) {
         let end = rows::number(rows::end_at(table, row));
@@ -62,7 +62,7 @@ pub fn on_from(table: &[u32], n: usize, row: usize, bound: usize) -> Step
 
 // Along, to the entry of a reference.
 pub fn along_from(table: &[u32], n: usize, row: usize, bound: usize) -> Step
-    ensures { result ≡ stepAlong table.now n (standing row bound) }
+    ensures { result ≡ step_along table.now n (standing row bound) }
 {
     if genuine(table, n, row, bound) {
         let w = rows::row_at(table, row);

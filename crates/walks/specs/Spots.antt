@@ -2,13 +2,13 @@
 -- Assumes nothing: these are definitions.
 use Rattle.std.specs.Prelude.{ℕ, zero, suc, ◌+◌, ◌≤◌, ◌<◌, cond, List, [], ◌∷◌, length}
 use Rattle.format.specs.Tree.{Tree, leaf, refer, hold, declare, foreign, damaged, Trees, none, more, size}
-use Rattle.format.specs.Value.{inForeign}
+use Rattle.format.specs.Value.{in_foreign}
 use Rattle.walker.specs.declared.standing.Standing.{Standing}
 use Rattle.walker.specs.declared.step.Step.{Step}
 use Rattle.walker.specs.declared.step.Step.TheVariants.{To, NoStep, BadTable}
 use Rattle.payload.specs.declared.part.Part.{Part}
-use Rattle.walker.specs.Walk.{standing, stepIn, stepOn, stepAlong}
-use Rattle.payload.specs.Payload.{hasPayload, part}
+use Rattle.walker.specs.Walk.{standing, step_in, step_on, step_along}
+use Rattle.payload.specs.Payload.{has_payload, part}
 
 mutual
   -- a tree, its row, and the entries in force there
@@ -19,19 +19,19 @@ mutual
     nil : Spots
     cons : (first : Spot) → (rest : Spots) → Spots
 
-abbrev pub spotTree : Spot → Tree
-spotTree (spot t row force) = t
+abbrev pub spot_tree : Spot → Tree
+spot_tree (spot t row force) = t
 
-abbrev pub spotRow : Spot → ℕ
-spotRow (spot t row force) = row
+abbrev pub spot_row : Spot → ℕ
+spot_row (spot t row force) = row
 
-abbrev pub spotEnd : Spot → ℕ
-spotEnd (spot t row force) = row + size t
+abbrev pub spot_end : Spot → ℕ
+spot_end (spot t row force) = row + size t
 
 -- the rows of the entries in force
-abbrev pub spotRows : Spots → List ℕ
-spotRows nil = []
-spotRows (cons x xs) = spotRow x ∷ spotRows xs
+abbrev pub spot_rows : Spots → List ℕ
+spot_rows nil = []
+spot_rows (cons x xs) = spot_row x ∷ spot_rows xs
 
 unfoldable pub added : Spots → Spot → Spots
 added nil x = cons x nil
@@ -50,8 +50,8 @@ front (suc k) nil = nil
 front (suc k) (cons x xs) = cons x (front k xs)
 
 -- "no registry is in force at the start of a foreign body" (request §2): the entries in force there, of those around it
-abbrev pub forBody : Spots → Spots
-forBody force = front (inForeign (length (spotRows force))) force
+abbrev pub for_body : Spots → Spots
+for_body force = front (in_foreign (length (spot_rows force))) force
 
 -- ---- children
 
@@ -71,7 +71,7 @@ children (spot (leaf o) row force) = nil
 children (spot (refer o) row force) = nil
 children (spot (hold o ts) row force) = siblings ts (row + 1) force
 children (spot (declare o es t) row force) = declared es t (row + 1) nil
-children (spot (foreign o t) row force) = cons (spot t (row + 1) (forBody force)) nil
+children (spot (foreign o t) row force) = cons (spot t (row + 1) (for_body force)) nil
 children (spot (damaged o) row force) = nil
 
 -- ---- steps in a tree: where one stands, and what stands behind it under the same holder
@@ -88,55 +88,55 @@ entry_of (spot (declare o es t) row force) = nil
 entry_of (spot (foreign o t) row force) = nil
 entry_of (spot (damaged o) row force) = nil
 
-unfoldable pub treeStep : Way → Spot → Spots → Spots
-treeStep inward x xs = children x
-treeStep onward x xs = xs
-treeStep alongside x xs = entry_of x
+unfoldable pub tree_step : Way → Spot → Spots → Spots
+tree_step inward x xs = children x
+tree_step onward x xs = xs
+tree_step alongside x xs = entry_of x
 
 -- "the end of the holder around it": the end of the last tree under it
-unfoldable pub boundOf : Spot → Spots → ℕ
-boundOf x nil = spotEnd x
-boundOf x (cons y ys) = boundOf y ys
+unfoldable pub bound_of : Spot → Spots → ℕ
+bound_of x nil = spot_end x
+bound_of x (cons y ys) = bound_of y ys
 
 -- the answer for what was found: a row and its bound, or "No such row: 14"
-abbrev pub stepFor : Spots → Step
-stepFor nil = NoStep
-stepFor (cons x xs) = To (spotRow x) (boundOf x xs)
+abbrev pub step_for : Spots → Step
+step_for nil = NoStep
+step_for (cons x xs) = To (spot_row x) (bound_of x xs)
 
 -- "the standing asked from stays good, and a walk goes on from there"
-abbrev pub goOn : {A : Type 0} → Spots → Spot → Spots → (Spot → Spots → A) → A
-goOn nil x xs rest = rest x xs
-goOn (cons y ys) x xs rest = rest y ys
+abbrev pub go_on : {A : Type 0} → Spots → Spot → Spots → (Spot → Spots → A) → A
+go_on nil x xs rest = rest x xs
+go_on (cons y ys) x xs rest = rest y ys
 
 -- the answers of a walk
-unfoldable pub treeWalk : List Way → Spot → Spots → List Step
-treeWalk [] x xs = []
-treeWalk (w ∷ ws) x xs = stepFor (treeStep w x xs) ∷ goOn (treeStep w x xs) x xs (treeWalk ws)
+unfoldable pub tree_walk : List Way → Spot → Spots → List Step
+tree_walk [] x xs = []
+tree_walk (w ∷ ws) x xs = step_for (tree_step w x xs) ∷ go_on (tree_step w x xs) x xs (tree_walk ws)
 
 -- where it ends
-unfoldable pub treeEnd : List Way → Spot → Spots → Spot
-treeEnd [] x xs = x
-treeEnd (w ∷ ws) x xs = goOn (treeStep w x xs) x xs (treeEnd ws)
+unfoldable pub tree_end : List Way → Spot → Spots → Spot
+tree_end [] x xs = x
+tree_end (w ∷ ws) x xs = go_on (tree_step w x xs) x xs (tree_end ws)
 
 -- ---- the same in a table
 
-unfoldable pub stepBy : List ℕ → ℕ → Way → Standing → Step
-stepBy table n inward at = stepIn table n at
-stepBy table n onward at = stepOn table n at
-stepBy table n alongside at = stepAlong table n at
+unfoldable pub step_by : List ℕ → ℕ → Way → Standing → Step
+step_by table n inward at = step_in table n at
+step_by table n onward at = step_on table n at
+step_by table n alongside at = step_along table n at
 
-abbrev pub goTo : Standing → Step → Standing
-goTo at (To row bound) = standing row bound
-goTo at NoStep = at
-goTo at BadTable = at
+abbrev pub go_to : Standing → Step → Standing
+go_to at (To row bound) = standing row bound
+go_to at NoStep = at
+go_to at BadTable = at
 
-unfoldable pub tableWalk : List ℕ → ℕ → List Way → Standing → List Step
-tableWalk table n [] at = []
-tableWalk table n (w ∷ ws) at = stepBy table n w at ∷ tableWalk table n ws (goTo at (stepBy table n w at))
+unfoldable pub table_walk : List ℕ → ℕ → List Way → Standing → List Step
+table_walk table n [] at = []
+table_walk table n (w ∷ ws) at = step_by table n w at ∷ table_walk table n ws (go_to at (step_by table n w at))
 
 unfoldable pub table_end : List ℕ → ℕ → List Way → Standing → Standing
 table_end table n [] at = at
-table_end table n (w ∷ ws) at = table_end table n ws (goTo at (stepBy table n w at))
+table_end table n (w ∷ ws) at = table_end table n ws (go_to at (step_by table n w at))
 
 -- a standing in the table, or 14; never 12
 abbrev pub InTable : ℕ → Step → Type 0
@@ -149,10 +149,10 @@ AllInTable n [] = Unit {0}
 AllInTable n (x ∷ xs) = InTable n x × AllInTable n xs
 
 -- a tree's own payload
-abbrev pub ownPart : Tree → Part
-ownPart (leaf o) = cond (hasPayload o.kind) (part o.w0 o.w1) (part 0 0)
-ownPart (refer o) = part 0 0
-ownPart (hold o ts) = part 0 0
-ownPart (declare o es t) = part 0 0
-ownPart (foreign o t) = part 0 0
-ownPart (damaged o) = part 0 0
+abbrev pub own_part : Tree → Part
+own_part (leaf o) = cond (has_payload o.kind) (part o.w0 o.w1) (part 0 0)
+own_part (refer o) = part 0 0
+own_part (hold o ts) = part 0 0
+own_part (declare o es t) = part 0 0
+own_part (foreign o t) = part 0 0
+own_part (damaged o) = part 0 0

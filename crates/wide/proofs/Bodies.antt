@@ -11,66 +11,66 @@ use lib.Dec.{leb}
 use borrow.Author.Tests.{le-leb, lt-leb}
 use Rattle.wide.specs.declared.wide.Wide.{Wide}
 use Rattle.wide.specs.Number.{number, bytes_of}
-use Rattle.wide.specs.Words.{wideEnd, words, value_of, wide_of}
-use Rattle.wide.specs.Body.{extended, negative, bodyValue}
-use Rattle.wide.proofs.Numbers.{either, onto, Bytes, pow_step, pow-pos256, onto-number, onto-zero, bytes-all, bytes_take, bytes_drop, bytes_low, bytes-split}
-use Rattle.wide.proofs.Wides.{Words, wide-more}
-use Rattle.wide.proofs.Steps.{in-again}
+use Rattle.wide.specs.Words.{wide_end, words, value_of, wide_of}
+use Rattle.wide.specs.Body.{extended, negative, body_value}
+use Rattle.wide.proofs.Numbers.{either, onto, Bytes, pow_step, pow_pos256, onto_number, onto_zero, bytes-all, bytes_take, bytes_drop, bytes_low, bytes_split}
+use Rattle.wide.proofs.Wides.{Words, wide_more}
+use Rattle.wide.proofs.Steps.{in_again}
 
 -- the number lies between what its top byte says
-top-low : (bs : List ℕ) (k : ℕ) → length bs ≡ suc k → get_or bs k 0 * 256 ^ k ≤ number bs
-top-low [] k e = omega arith
-top-low (b ∷ []) zero e = omega arith
-top-low (b ∷ []) (suc k) e = omega arith
-top-low (b ∷ c ∷ bs) zero e = omega arith
-top-low (b ∷ c ∷ bs) (suc k) e =
+top_low : (bs : List ℕ) (k : ℕ) → length bs ≡ suc k → get_or bs k 0 * 256 ^ k ≤ number bs
+top_low [] k e = omega arith
+top_low (b ∷ []) zero e = omega arith
+top_low (b ∷ []) (suc k) e = omega arith
+top_low (b ∷ c ∷ bs) zero e = omega arith
+top_low (b ∷ c ∷ bs) (suc k) e =
     let t : ℕ = get_or (c ∷ bs) k 0 in
-    omega (arith, top-low (c ∷ bs) k (omega arith), mul_left_comm t 256 (256 ^ k), ap (λ (p : ℕ). t * p) (pow_step k))
+    omega (arith, top_low (c ∷ bs) k (omega arith), mul_left_comm t 256 (256 ^ k), ap (λ (p : ℕ). t * p) (pow_step k))
 
-top-high : (bs : List ℕ) (k : ℕ) → Bytes bs → length bs ≡ suc k → number bs < get_or bs k 0 * 256 ^ k + 256 ^ k
-top-high [] k h e = omega arith
-top-high (b ∷ []) zero h e = omega arith
-top-high (b ∷ []) (suc k) h e = omega arith
-top-high (b ∷ c ∷ bs) zero h e = omega arith
-top-high (b ∷ c ∷ bs) (suc k) h e =
+top_high : (bs : List ℕ) (k : ℕ) → Bytes bs → length bs ≡ suc k → number bs < get_or bs k 0 * 256 ^ k + 256 ^ k
+top_high [] k h e = omega arith
+top_high (b ∷ []) zero h e = omega arith
+top_high (b ∷ []) (suc k) h e = omega arith
+top_high (b ∷ c ∷ bs) zero h e = omega arith
+top_high (b ∷ c ∷ bs) (suc k) h e =
     let t : ℕ = get_or (c ∷ bs) k 0 in
-    omega (arith, h.0, top-high (c ∷ bs) k h.1 (omega arith), mul_left_comm t 256 (256 ^ k), ap (λ (p : ℕ). t * p) (pow_step k), pow_step k)
+    omega (arith, h.0, top_high (c ∷ bs) k h.1 (omega arith), mul_left_comm t 256 (256 ^ k), ap (λ (p : ℕ). t * p) (pow_step k), pow_step k)
 
 -- the highest bit is that of the top byte
 pub top_bit : (bs : List ℕ) (k : ℕ) → Bytes bs → length bs ≡ suc k → leb (256 ^ length bs) (2 * number bs) ≡ leb 128 (get_or bs k 0)
 top_bit bs k h e =
     let t : ℕ = get_or bs k 0 in
     let p : ℕ = 256 ^ k in
-    let lo : t * p ≤ number bs = top-low bs k e in
-    let hi : number bs < t * p + p = top-high bs k h e in
+    let lo : t * p ≤ number bs = top_low bs k e in
+    let hi : number bs < t * p + p = top_high bs k h e in
     let q : 256 ^ length bs ≡ 256 * p = ap (λ (n : ℕ). 256 ^ n) e ∙ pow_step k in
     either 128 t
     (λ l. le-leb (256 ^ length bs) (2 * number bs) (omega (arith, mul-le-mul_right p l)) ∙ sym (le-leb 128 t l))
     (λ l. let l' : t ≤ 127 = omega arith in
     lt-leb (256 ^ length bs) (2 * number bs) (omega (arith, mul-le-mul_right p l')) ∙ sym (lt-leb 128 t l))
 
-pub pow-whole : (k : ℕ) → k ≤ 16 → 256 ^ k ≤ wideEnd
-unfolding wideEnd
-pow-whole k h = pow-le-pow_right (zero-lt-suc 255) h
+pub pow_whole : (k : ℕ) → k ≤ 16 → 256 ^ k ≤ wide_end
+unfolding wide_end
+pow_whole k h = pow-le-pow_right (zero-lt-suc 255) h
 
 -- ones above a body, or none, are what its extension has
-fill-true : (p n : ℕ) → 0 < p → p ≤ wideEnd → n + (wideEnd - 1) * p ≡ n + (wideEnd - p) + wideEnd * (p - 1)
-fill-true p n h k =
-    let a : p * (wideEnd - 1) ≡ p * wideEnd - p * 1 = mul-sub p wideEnd 1 in
-    let b : wideEnd * (p - 1) ≡ wideEnd * p - wideEnd * 1 = mul-sub wideEnd p 1 in
-    omega (arith, mul_comm (wideEnd - 1) p, mul_comm p wideEnd, mul-le-mul_left wideEnd h, mul-le-mul_left p k, mul-le-mul_right p (one-le-whole h k))
+fill_true : (p n : ℕ) → 0 < p → p ≤ wide_end → n + (wide_end - 1) * p ≡ n + (wide_end - p) + wide_end * (p - 1)
+fill_true p n h k =
+    let a : p * (wide_end - 1) ≡ p * wide_end - p * 1 = mul-sub p wide_end 1 in
+    let b : wide_end * (p - 1) ≡ wide_end * p - wide_end * 1 = mul-sub wide_end p 1 in
+    omega (arith, mul_comm (wide_end - 1) p, mul_comm p wide_end, mul-le-mul_left wide_end h, mul-le-mul_left p k, mul-le-mul_right p (one_le_whole h k))
   where
-    one-le-whole : 0 < p → p ≤ wideEnd → 1 ≤ wideEnd
-    one-le-whole x y = omega arith
+    one_le_whole : 0 < p → p ≤ wide_end → 1 ≤ wide_end
+    one_le_whole x y = omega arith
 
 pub filled : (neg : Bool) (bs : List ℕ) → length bs ≤ 16 → wide_of (onto (extended neg 0 0) bs) ≡ wide_of (extended neg (length bs) (number bs))
-filled false bs h = ap wide_of (onto-zero bs)
+filled false bs h = ap wide_of (onto_zero bs)
 filled true bs h =
     let p : ℕ = 256 ^ length bs in
-    let e : extended true 0 0 ≡ wideEnd - 1 = omega arith in
+    let e : extended true 0 0 ≡ wide_end - 1 = omega arith in
     ap (λ (f : ℕ). wide_of (onto f bs)) e
-    ∙ ap wide_of (onto-number (wideEnd - 1) bs ∙ fill-true p (number bs) (pow-pos256 (length bs)) (pow-whole (length bs) h))
-    ∙ wide-more (number bs + (wideEnd - p)) (p - 1)
+    ∙ ap wide_of (onto_number (wide_end - 1) bs ∙ fill_true p (number bs) (pow_pos256 (length bs)) (pow_whole (length bs) h))
+    ∙ wide_more (number bs + (wide_end - p)) (p - 1)
 
 sign : (signed : Bool) (bs : List ℕ) (k : ℕ) → Bytes bs → length bs ≡ suc k → negative signed (length bs) (number bs) ≡ (signed && leb 128 (get_or bs k 0))
 sign false bs k h e = refl
@@ -105,13 +105,13 @@ module _ (s : List ℕ) (at size : ℕ) (low : 1 ≤ size) (high : size ≤ 16) 
       let x : ℕ = get_or s (at + j) 0 in
       g
       ∙ ap (λ (v : Wide). wide_of (x + 256 * value_of v)) (e ∙ ap (λ (k : ℕ). wide_of (onto f (drop k (take size (drop at s))))) ij)
-      ∙ in-again (onto f (drop (suc j) (take size (drop at s)))) x b
+      ∙ in_again (onto f (drop (suc j) (take size (drop at s)))) x b
       ∙ ap wide_of (sym (body-step f j (omega arith)))
 
-  pub body-read : (signed : Bool) → ((i : ℕ) → get_or s i 0 < 256)
-      → wide_of (onto (extended (signed && leb 128 (get_or s (at + (size - 1)) 0)) 0 0) (take size (drop at s))) ≡ wide_of (bodyValue signed (take size (drop at s)))
-  unfolding bodyValue
-  body-read signed h =
+  pub body_read : (signed : Bool) → ((i : ℕ) → get_or s i 0 < 256)
+      → wide_of (onto (extended (signed && leb 128 (get_or s (at + (size - 1)) 0)) 0 0) (take size (drop at s))) ≡ wide_of (body_value signed (take size (drop at s)))
+  unfolding body_value
+  body_read signed h =
       let bs : List ℕ = take size (drop at s) in
       let e : length bs ≡ suc (size - 1) = omega (arith, body-length) in
       let t : get_or bs (size - 1) 0 ≡ get_or s (at + (size - 1)) 0 = body_at (size - 1) (omega arith) in
@@ -121,8 +121,8 @@ module _ (s : List ℕ) (at size : ℕ) (low : 1 ≤ size) (high : size ≤ 16) 
 
 -- ---- a body that is written: what is left to write completes it
 
-pub write-start : (out : List ℕ) (at size n : ℕ) → sets out (at + 0) (bytes_of (size - 0) n) ≡ sets out at (bytes_of size n)
-write-start out at size n =
+pub write_start : (out : List ℕ) (at size n : ℕ) → sets out (at + 0) (bytes_of (size - 0) n) ≡ sets out at (bytes_of size n)
+write_start out at size n =
     let p : at + 0 ≡ at = omega arith in
     let q : size - 0 ≡ size = omega arith in
     ap₂ (λ (a k : ℕ). sets out a (bytes_of k n)) p q
@@ -152,13 +152,13 @@ put_four out at count w l n0 n1 n2 n3 =
     rw (e, p, q, r)
 
 -- the words of what is left
-pub words-off : (w : Wide) → Words w → Words (words w.w1 w.w2 w.w3 0)
-words-off w h = record { f0 = h.f1; f1 = h.f2; f2 = h.f3; f3 = omega arith }
+pub words_off : (w : Wide) → Words w → Words (words w.w1 w.w2 w.w3 0)
+words_off w h = record { f0 = h.f1; f1 = h.f2; f2 = h.f3; f3 = omega arith }
 
-pub write-turn : (out after t : List ℕ) (at i size : ℕ) (w r : Wide) → 4 < size - i → Words w → after ≡ sets out (at + i) (bytes_of 4 w.w0)
+pub write_turn : (out after t : List ℕ) (at i size : ℕ) (w r : Wide) → 4 < size - i → Words w → after ≡ sets out (at + i) (bytes_of 4 w.w0)
     → r ≡ words w.w1 w.w2 w.w3 0 → sets out (at + i) (bytes_of (size - i) (value_of w)) ≡ t
     → sets after (at + (i + 4)) (bytes_of (size - (i + 4)) (value_of r)) ≡ t
-write-turn out after t at i size w r l h ea er e =
+write_turn out after t at i size w r l h ea er e =
     let k : ℕ = size - (i + 4) in
     let y : ℕ = w.w1 + 2 ^ 32 * (w.w2 + 2 ^ 32 * w.w3) in
     let p : at + (i + 4) ≡ suc (suc (suc (suc (at + i)))) = omega arith in
@@ -166,12 +166,12 @@ write-turn out after t at i size w r l h ea er e =
     let v : value_of r ≡ y = ap value_of er ∙ ap (λ (n : ℕ). w.w1 + 2 ^ 32 * (w.w2 + 2 ^ 32 * n)) (add-zero w.w3) in
     ap₂ (λ (o : List ℕ) (a : ℕ). sets o a (bytes_of k (value_of r))) ea p
     ∙ ap (λ (n : ℕ). sets (sets out (at + i) (bytes_of 4 w.w0)) (suc (suc (suc (suc (at + i))))) (bytes_of k n)) v
-    ∙ ap (sets out (at + i)) (sym (bytes-split 4 k w.w0 y h.f0))
+    ∙ ap (sets out (at + i)) (sym (bytes_split 4 k w.w0 y h.f0))
     ∙ ap (λ (x : ℕ). sets out (at + i) (bytes_of x (value_of w))) q
     ∙ e
 
-pub write-end : (out after t : List ℕ) (at i size : ℕ) (w : Wide) → size - i ≤ 4 → after ≡ sets out (at + i) (bytes_of (size - i) w.w0)
+pub write_end : (out after t : List ℕ) (at i size : ℕ) (w : Wide) → size - i ≤ 4 → after ≡ sets out (at + i) (bytes_of (size - i) w.w0)
     → sets out (at + i) (bytes_of (size - i) (value_of w)) ≡ t → after ≡ t
-write-end out after t at i size w l ea e =
+write_end out after t at i size w l ea e =
     let y : ℕ = w.w1 + 2 ^ 32 * (w.w2 + 2 ^ 32 * w.w3) in
     ea ∙ ap (sets out (at + i)) (sym (bytes_low (size - i) 4 w.w0 y l)) ∙ e

@@ -3,4 +3,4 @@ pub mod Family
 pub mod Members
 pub mod Number
 pub mod Words
-pub mod Contracts
+pub mod Inner

@@ -3,7 +3,7 @@ ghost use Rattle.std.specs.Prelude.{◌≡◌, ◌&&◌, ◌+◌, ◌≤◌, len
 ghost use Rattle.std.proofs.lemmas.List.Edits.{sets};
 ghost use Rattle.wide.specs.Number.{bytes_of};
 ghost use Rattle.wide.specs.Words.{value_of, wide_of};
-ghost use Rattle.wide.specs.Body.{bodyValue};
+ghost use Rattle.wide.specs.Body.{body_value};
 
 use crate::step;
 use crate::wide::Wide;
@@ -18,7 +18,7 @@ fn is_negative(signed: bool, top: u8) -> bool
 // A body of `size` bytes at `at`, taken to 128 bits.
 pub fn read_body(s: &[u8], at: usize, size: usize, signed: bool) -> Wide
     requires { (1 ≤ size) × (size ≤ 16) × (at + size ≤ length s.now) }
-    ensures { result ≡ wide_of (bodyValue signed (take size (drop at s.now))) }
+    ensures { result ≡ wide_of (body_value signed (take size (drop at s.now))) }
 {
     let last = at + (size - 1);
     let mut w = step::filled(is_negative(signed, s[last]));

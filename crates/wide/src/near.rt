@@ -1,6 +1,6 @@
 // Numbers near 0, which a byte alone can be. Each is told by how far it stands behind -below.
 ghost use Rattle.std.specs.Prelude.{◌≡◌, ◌&&◌, ◌+◌, ◌-◌, ◌%◌, ◌≤◌, ltb, eqb};
-ghost use Rattle.wide.specs.Words.{wideEnd, value_of, wide_of};
+ghost use Rattle.wide.specs.Words.{wide_end, value_of, wide_of};
 ghost use Rattle.wide.specs.Family.{behind};
 
 use crate::wide::Wide;
@@ -22,7 +22,7 @@ fn above(w: Wide, word: u32) -> bool
 // every number that is not.
 pub fn is_near(w: Wide, below: u32, up: u32) -> bool
     requires { (below ≤ 256) × (up ≤ 256) }
-    ensures { result ≡ ltb (behind wideEnd (wideEnd - below) (value_of w)) (below + up) }
+    ensures { result ≡ ltb (behind wide_end (wide_end - below) (value_of w)) (below + up) }
 {
     if w.w0 < up {
         return above(w, 0);
@@ -36,7 +36,7 @@ pub fn is_near(w: Wide, below: u32, up: u32) -> bool
 // The number that stands `far` behind -below.
 pub fn near(below: u32, far: u32) -> Wide
     requires { (below ≤ 256) × (far ≤ 256) }
-    ensures { result ≡ wide_of ((wideEnd - below + far) % wideEnd) }
+    ensures { result ≡ wide_of ((wide_end - below + far) % wide_end) }
 {
     if far < below {
         return Wide {

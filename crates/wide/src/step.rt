@@ -1,6 +1,6 @@
 // Steps on four words.
 ghost use Rattle.std.specs.Prelude.{◌≡◌, cond, ltb, ◌+◌, ◌-◌, ◌*◌, ◌/◌, ◌%◌};
-ghost use Rattle.wide.specs.Words.{wideEnd, words, value_of, wide_of};
+ghost use Rattle.wide.specs.Words.{wide_end, words, value_of, wide_of};
 ghost use Rattle.wide.specs.Body.{extended};
 
 use crate::wide::Wide;
@@ -74,7 +74,7 @@ fn turned(x: u32, top: u32) -> u32
 
 // The number, or its complement where its highest bit is set: word by word, so that no branch depends on the sign.
 pub fn folded(w: Wide) -> Wide
-    ensures { result ≡ cond (ltb w.w3 2147483648) w (wide_of (wideEnd - 1 - value_of w)) }
+    ensures { result ≡ cond (ltb w.w3 2147483648) w (wide_of (wide_end - 1 - value_of w)) }
 {
     Wide {
         w0: turned(w.w0, w.w3),

@@ -4,11 +4,11 @@ use mathlib.Core.List.{List}
 use Prim.Native.Nat.{ℕ}
 use lib.ListN.{length}
 use Rattle.writer.specs.declared.written.Written.{Written}
-use Rattle.writer.specs.Written.{written, outputAfter}
+use Rattle.writer.specs.Written.{written, output_after}
 
 module _ (depth : ℕ) (table : List ℕ) (n : ℕ) (s out : List ℕ) where
   pub one_answer : (a b : Written) → a ≡ written depth table n s (length out) → b ≡ written depth table n s (length out) → a ≡ b
   one_answer a b p q = p ∙ sym q
 
-  pub one-output : (a b : List ℕ) → a ≡ outputAfter depth table n s out → b ≡ outputAfter depth table n s out → a ≡ b
-  one-output a b p q = p ∙ sym q
+  pub one_output : (a b : List ℕ) → a ≡ output_after depth table n s out → b ≡ output_after depth table n s out → a ≡ b
+  one_output a b p q = p ∙ sym q

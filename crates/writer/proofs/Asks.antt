@@ -8,32 +8,32 @@ use native.Mathlib.Omega.{arith}
 use lib.ListN.{length, get_or, drop}
 use lib.Dec.{leb}
 use borrow.Author.Tests.{le-leb, lt-leb}
-use Rattle.rows.specs.Table.{wordsPerRow, rowAt, limit}
+use Rattle.rows.specs.Table.{words_per_row, row_at, limit}
 use Rattle.format.specs.Tree.{Tree}
-use Rattle.rules.specs.Grow.{rulesHold}
+use Rattle.rules.specs.Grow.{rules_hold}
 use Rattle.rules.specs.Obeys.{Stands}
-use Rattle.rules.proofs.Exact.{yes-stands, laid_out, stands-grows}
+use Rattle.rules.proofs.Exact.{yes_stands, laid_out, stands_grows}
 use Rattle.checker.specs.declared.checked.Checked.{Checked}
 use Rattle.checker.specs.declared.checked.Checked.TheVariants as checks
 use Rattle.checker.specs.Checked.{checked}
-use Rattle.checker.proofs.Answers.{yes-holds}
+use Rattle.checker.proofs.Answers.{yes_holds}
 use Rattle.encode.specs.Encode.{encode}
-use Rattle.spell.specs.Contracts.{Inside}
+use Rattle.spell.specs.Inner.{Inside}
 use Rattle.writer.specs.declared.written.Written.TheVariants.{Done, BadTable, TooLarge, NoRoom}
-use Rattle.writer.specs.Written.{encoded, documentOf, written, outputAfter}
-use Rattle.writer.specs.Contracts.{Spells, Spelt, Long, RoomFor, FrontLaid}
-use Rattle.writer.proofs.Spelling.{inside-at, spelled-few}
-use Rattle.writer.proofs.Trees.{tree-spells}
+use Rattle.writer.specs.Written.{encoded, document_of, written, output_after}
+use Rattle.writer.specs.Inner.{Spells, Spelt, Long, RoomFor, FrontLaid}
+use Rattle.writer.proofs.Spelling.{inside_at, spelled-few}
+use Rattle.writer.proofs.Trees.{tree_spells}
 
 -- ---- the check
 
 module _ (depth : ℕ) (table : List ℕ) (n : ℕ) (s : List ℕ) (c : Checked) (e : c ≡ checked depth table n s) where
-  pub checked-yes : (rows : ℕ) → c ≡ checks.Right rows → rulesHold depth table n s ≡ true
-  checked-yes rows q = yes-holds depth table n s rows (sym e ∙ q)
+  pub checked_yes : (rows : ℕ) → c ≡ checks.Right rows → rules_hold depth table n s ≡ true
+  checked_yes rows q = yes_holds depth table n s rows (sym e ∙ q)
 
-  pub checked-no : c ≡ checks.BadTable → rulesHold depth table n s ≡ false
+  pub checked_no : c ≡ checks.BadTable → rules_hold depth table n s ≡ false
   unfolding checked
-  checked-no q = of (rulesHold depth table n s) (sym e ∙ q)
+  checked_no q = of (rules_hold depth table n s) (sym e ∙ q)
     where
       of : (b : Bool) → cond b (checks.Right n) checks.BadTable ≡ checks.BadTable → b ≡ false
       of true r = absurd (let z : ◌≡◌ {A = ℕ} 0 1 = cc in omega arith)
@@ -42,67 +42,67 @@ module _ (depth : ℕ) (table : List ℕ) (n : ℕ) (s : List ℕ) (c : Checked)
 -- ---- a table that passes
 
 module _ (depth : ℕ) (table : List ℕ) (n : ℕ) (s : List ℕ) where
-  pub stands-document : (t : Tree) → Stands depth table n s t → documentOf depth table n s ≡ encode s t
-  unfolding documentOf
-  stands-document t st = ap (encoded s) (stands-grows depth table n s t st)
+  pub stands_document : (t : Tree) → Stands depth table n s t → document_of depth table n s ≡ encode s t
+  unfolding document_of
+  stands_document t st = ap (encoded s) (stands_grows depth table n s t st)
 
-  stands_spells : (t : Tree) → Stands depth table n s t → Spells table s 0 n (documentOf depth table n s)
+  stands_spells : (t : Tree) → Stands depth table n s t → Spells table s 0 n (document_of depth table n s)
   stands_spells t st =
-      subst (Spells table s 0 n) (sym (stands-document t st))
-      (subst (λ (x : ℕ). Spells table s 0 x (encode s t)) (zero-add _ ∙ st.rows) (tree-spells table s t (suc depth) 0 0 [] (drop (wordsPerRow * n) table) st.obeys (laid_out depth table n s t st)))
+      subst (Spells table s 0 n) (sym (stands_document t st))
+      (subst (λ (x : ℕ). Spells table s 0 x (encode s t)) (zero-add _ ∙ st.rows) (tree_spells table s t (suc depth) 0 0 [] (drop (words_per_row * n) table) st.obeys (laid_out depth table n s t st)))
 
-  module _ (yes : rulesHold depth table n s ≡ true) where
+  module _ (yes : rules_hold depth table n s ≡ true) where
     stands : (t : Tree) × Stands depth table n s t
-    stands = yes-stands depth table n s yes
+    stands = yes_stands depth table n s yes
 
-    spells : Spells table s 0 n (documentOf depth table n s)
+    spells : Spells table s 0 n (document_of depth table n s)
     spells = stands_spells stands.0 stands.1
 
-    pub yes-inside : (row : ℕ) → row < n → Inside s (rowAt table row)
-    yes-inside row l = inside-at table s 0 n (documentOf depth table n s) spells row (omega arith) l
+    pub yes_inside : (row : ℕ) → row < n → Inside s (row_at table row)
+    yes_inside row l = inside_at table s 0 n (document_of depth table n s) spells row (omega arith) l
 
     -- the bytes needed are below 2 ^ 49
-    pub yes-few : ((i : ℕ) → get_or table i 0 < 2 ^ 32) → length (documentOf depth table n s) ≤ n * 2 ^ 25
-    yes-few fit =
+    pub yes_few : ((i : ℕ) → get_or table i 0 < 2 ^ 32) → length (document_of depth table n s) ≤ n * 2 ^ 25
+    yes_few fit =
         let e : n - 0 ≡ n = omega arith in
-        subst (λ (x : ℕ). length (documentOf depth table n s) ≤ x * 2 ^ 25) e (spelled-few table s fit stands.1.short 0 n (documentOf depth table n s) stands.1.few spells)
+        subst (λ (x : ℕ). length (document_of depth table n s) ≤ x * 2 ^ 25) e (spelled-few table s fit stands.1.short 0 n (document_of depth table n s) stands.1.few spells)
 
-    pub yes-spelt : Spelt table 0 n
-    yes-spelt = record { rows-lent = stands.1.rows-lent; few = stands.1.few; over = s; short = stands.1.short; bytes = documentOf depth table n s; spells = spells }
+    pub yes_spelt : Spelt table 0 n
+    yes_spelt = record { rows-lent = stands.1.rows-lent; few = stands.1.few; over = s; short = stands.1.short; bytes = document_of depth table n s; spells = spells }
 
     module _ (needed : ℕ) (long : Long table 0 n needed) (out : List ℕ) where
-      exact : needed ≡ length (documentOf depth table n s)
-      exact = long.long s (documentOf depth table n s) spells
+      exact : needed ≡ length (document_of depth table n s)
+      exact = long.long s (document_of depth table n s) spells
 
-      pub too_large : limit < needed → (TooLarge needed ≡ written depth table n s (length out)) × (out ≡ outputAfter depth table n s out)
-      unfolding written outputAfter
+      pub too_large : limit < needed → (TooLarge needed ≡ written depth table n s (length out)) × (out ≡ output_after depth table n s out)
+      unfolding written output_after
       too_large h =
-          let D : ℕ = length (documentOf depth table n s) in
+          let D : ℕ = length (document_of depth table n s) in
           let l : leb D limit ≡ false = lt-leb D limit (omega (arith, exact)) in
           (ap TooLarge exact ∙ rw (yes, l), rw (yes, l))
 
-      pub no_room : needed ≤ limit → length out < needed → (NoRoom needed ≡ written depth table n s (length out)) × (out ≡ outputAfter depth table n s out)
-      unfolding written outputAfter
+      pub no_room : needed ≤ limit → length out < needed → (NoRoom needed ≡ written depth table n s (length out)) × (out ≡ output_after depth table n s out)
+      unfolding written output_after
       no_room h r =
-          let D : ℕ = length (documentOf depth table n s) in
+          let D : ℕ = length (document_of depth table n s) in
           let l : leb D limit ≡ true = le-leb D limit (omega (arith, exact)) in
           let m : leb D (length out) ≡ false = lt-leb D (length out) (omega (arith, exact)) in
           (ap NoRoom exact ∙ rw (yes, l, m), rw (yes, l, m))
 
-      pub yes-fits : needed ≤ length out → RoomFor table s n (length out)
-      yes-fits r = record { rows-lent = stands.1.rows-lent; few = stands.1.few; short = stands.1.short; bytes = documentOf depth table n s; spells = spells; fits = omega (arith, exact) }
+      pub yes_fits : needed ≤ length out → RoomFor table s n (length out)
+      yes_fits r = record { rows-lent = stands.1.rows-lent; few = stands.1.few; short = stands.1.short; bytes = document_of depth table n s; spells = spells; fits = omega (arith, exact) }
 
       pub done : needed ≤ limit → needed ≤ length out → (after : List ℕ) → FrontLaid table s n out after
-          → (Done needed ≡ written depth table n s (length out)) × (after ≡ outputAfter depth table n s out)
-      unfolding written outputAfter
+          → (Done needed ≡ written depth table n s (length out)) × (after ≡ output_after depth table n s out)
+      unfolding written output_after
       done h r after g =
-          let D : ℕ = length (documentOf depth table n s) in
+          let D : ℕ = length (document_of depth table n s) in
           let l : leb D limit ≡ true = le-leb D limit (omega (arith, exact)) in
           let m : leb D (length out) ≡ true = le-leb D (length out) (omega (arith, exact)) in
-          (ap Done exact ∙ rw (yes, l, m), g.laid (documentOf depth table n s) spells ∙ rw (yes, l, m))
+          (ap Done exact ∙ rw (yes, l, m), g.laid (document_of depth table n s) spells ∙ rw (yes, l, m))
 
   -- ---- one that does not
 
-  pub bad-table : rulesHold depth table n s ≡ false → (out : List ℕ) → (BadTable ≡ written depth table n s (length out)) × (out ≡ outputAfter depth table n s out)
-  unfolding written outputAfter
+  pub bad-table : rules_hold depth table n s ≡ false → (out : List ℕ) → (BadTable ≡ written depth table n s (length out)) × (out ≡ output_after depth table n s out)
+  unfolding written output_after
   bad-table e out = (rw e, rw e)

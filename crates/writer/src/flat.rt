@@ -1,6 +1,6 @@
 // Rows stand in document order, so each row's own bytes in turn are the document.
 ghost use Rattle.std.specs.Prelude.{length};
-ghost use Rattle.writer.specs.Contracts.{RoomFor, FrontLaid};
+ghost use Rattle.writer.specs.Inner.{RoomFor, FrontLaid};
 
 use crate::sizes;
 

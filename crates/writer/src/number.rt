@@ -1,13 +1,13 @@
 // The paper's numbers for an answer.
 ghost use Rattle.std.specs.Prelude.{◌≡◌};
-ghost use Rattle.writer.specs.Written.{writtenNumber, writtenBeside};
+ghost use Rattle.writer.specs.Written.{written_number, written_beside};
 
 use crate::written::Written;
 
 impl Written {
     // 0, or the refusal's number.
     pub fn number(self) -> u32
-        ensures { result ≡ writtenNumber self }
+        ensures { result ≡ written_number self }
     {
         match self {
             Written::Done { used: _ } => 0,
@@ -19,7 +19,7 @@ impl Written {
 
     // The bytes written, or needed.
     pub fn beside(self) -> u64
-        ensures { result ≡ writtenBeside self }
+        ensures { result ≡ written_beside self }
     {
         match self {
             Written::Done { used } => used,

@@ -1,16 +1,16 @@
 // The bytes of rows: row sizing calls children sizing, which calls row sizing again, the rows that remain falling at each round.
 ghost use Rattle.std.specs.Prelude.{◌+◌, ◌<◌};
-ghost use Rattle.rows.specs.Table.{rowAt};
-ghost use Rattle.writer.specs.Contracts.{Spelt, Long, Told};
+ghost use Rattle.rows.specs.Table.{row_at};
+ghost use Rattle.writer.specs.Inner.{Spelt, Long, Told};
 
 use rows::Row;
 
 // How many bytes a row spells with its children: its own, among which a foreign document has the length of theirs, and theirs. For a row with
 // no child, as most are, no call is made.
-#[cycle(size_children_size_row)]
+#[cycle(sizing)]
 fn size_row(table: &[u32], row: usize) -> usize
-    requires { Spelt table.now row (rowAt table.now row).end × (row < (rowAt table.now row).end) }
-    ensures { Long table.now row (rowAt table.now row).end result }
+    requires { Spelt table.now row (row_at table.now row).end × (row < (row_at table.now row).end) }
+    ensures { Long table.now row (row_at table.now row).end result }
 {
     let w = rows::row_at(table, row);
     let end = rows::number(w.end);
@@ -23,7 +23,7 @@ fn size_row(table: &[u32], row: usize) -> usize
 }
 
 // How many bytes the rows from `row` to `stop` spell, child after child.
-#[cycle(size_children_size_row)]
+#[cycle(sizing)]
 pub fn size_children(table: &[u32], row: usize, stop: usize) -> usize
     requires { Spelt table.now row stop }
     ensures { Long table.now row stop result }

@@ -1,6 +1,6 @@
 -- `checker::check_within` meets its contract. Assumes nothing.
 use borrow.Author.Rules.{rules}
-use Rattle.checker.proofs.Answers.{none, many, unlent, long, start-asks, start-based, right, elsewhere, broken}
+use Rattle.checker.proofs.Answers.{none, many, unlent, long, start_asks, start_based, right, elsewhere, broken}
 use Rattle.checker.proofs.check_within.Statement.{statement}
 use Rattle.checker.proofs.check_within.Tie as tie
 
@@ -17,7 +17,7 @@ returns-4 : tie.Need-returns-4
 returns-4 c = search long
 
 check-value-requires : tie.Need-check-value-requires
-check-value-requires c κs = (search start-asks, search start-based, search rules)
+check-value-requires c κs = (search start_asks, search start_based, search rules)
 
 returns-5 : tie.Need-returns-5
 returns-5 c = search right

@@ -11,8 +11,8 @@ returns c =
     let a = c.before.before.args in
     let p = c.before.before.requires in
     let byte : (i : ℕ) → get_or a.s.now i 0 < 256 = λ i. (c.before.shared-slice-known.given i).fits in (
-      number_is a.s.now a.at a.size p.1 p.2 byte c.read-body.result c.read-body.ensures,
-      number-low a.s.now a.at a.size p.1 p.2 byte c.read-body.result c.read-body.ensures,
+      number_is a.s.now a.at a.size p.1 p.2 byte c.read_body.result c.read_body.ensures,
+      number-low a.s.now a.at a.size p.1 p.2 byte c.read_body.result c.read_body.ensures,
     )
 
 pub number-spec : {M : Type 1} → statement M

@@ -1,6 +1,6 @@
 -- `laying::lay_document` meets its contract. Assumes nothing.
 use borrow.Author.Rules.{rules}
-use Rattle.laying.proofs.Whole.{document-ready, rows-laid, words-laid}
+use Rattle.laying.proofs.Whole.{document_ready, rows-laid, words-laid}
 use Rattle.laying.proofs.lay_document.Statement.{statement}
 use Rattle.laying.proofs.lay_document.Tie as tie
 
@@ -9,7 +9,7 @@ lay-document-spec =
     tie.close
     (tie.spec
     (λ c. search rules)
-    (λ c κs. (search document-ready, search rules))
+    (λ c κs. (search document_ready, search rules))
     (λ c κs. search rules)
     (λ c. search rules)
     (λ c. (search rows-laid, search words-laid)))

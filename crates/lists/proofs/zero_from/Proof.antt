@@ -4,7 +4,7 @@ use Prim.Native.Nat.{◌-◌}
 use native.Mathlib.Omega.{arith}
 use lib.ListN.{length, length-set}
 use Rattle.lists.specs.Zeroed.{zeroed}
-use Rattle.lists.proofs.Zeros.{length-zeroed, zeroed-out, zeroed-set}
+use Rattle.lists.proofs.Zeros.{length-zeroed, zeroed_out, zeroed-set}
 use Rattle.lists.proofs.zero_from.Statement.{statement}
 use Rattle.lists.proofs.zero_from.Tie as tie
 
@@ -36,7 +36,7 @@ same_length : tie.Need-same-length invariant-loop decreases-loop
 same_length c = simp length-zeroed at (ap length c.before.loop.invariant)
 
 returns : tie.Need-returns invariant-loop decreases-loop
-returns c = sym (zeroed-out c.before.loop.i c.before.loop.table c.loop-test.false) ∙ c.before.loop.invariant
+returns c = sym (zeroed_out c.before.loop.i c.before.loop.table c.loop-test.false) ∙ c.before.loop.invariant
 
 pub zero-from-spec : {M : Type 1} → statement M
 zero-from-spec =

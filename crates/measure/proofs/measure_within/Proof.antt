@@ -1,11 +1,11 @@
 -- `measure::measure_within` meets its contract. Assumes nothing.
 use borrow.Author.Rules.{rules}
-use Rattle.measure.proofs.Measures.{needed-too-long, needed-rows, needed-refused}
+use Rattle.measure.proofs.Measures.{needed_too_long, needed-rows, needed-refused}
 use Rattle.measure.proofs.measure_within.Statement.{statement}
 use Rattle.measure.proofs.measure_within.Tie as tie
 
 returns : tie.Need-returns
-returns c = search needed-too-long
+returns c = search needed_too_long
 
 returns-2 : tie.Need-returns-2
 returns-2 c = search needed-rows

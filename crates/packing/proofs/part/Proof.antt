@@ -2,7 +2,7 @@
 use native.Mathlib.Omega.{arith}
 use lib.ListN.{length-set}
 use borrow.Author.Rules.{rules}
-use Rattle.packing.proofs.Widths.{place-cast, size-cast}
+use Rattle.packing.proofs.Widths.{place_cast, size_cast}
 use Rattle.packing.proofs.Lists.{part-short, part-kept, part-answer, part-laid}
 use Rattle.packing.proofs.part.Statement.{statement}
 use Rattle.packing.proofs.part.Tie as tie
@@ -13,9 +13,9 @@ part-spec =
     (tie.spec
     (λ c κs. search rules)
     (λ c. (search part-short, search part-kept))
-    (λ c. search place-cast)
+    (λ c. search place_cast)
     (λ c. search rules)
-    (λ c. search size-cast)
+    (λ c. search size_cast)
     (λ c. simp length-set (omega arith))
     (λ c κs. search rules)
     (λ c. search rules)

@@ -2,8 +2,8 @@
 use native.Mathlib.Omega.{arith}
 use lib.ListN.{length-set}
 use borrow.Author.Rules.{rules}
-use Rattle.packing.proofs.Widths.{row-cast, bound-cast, moves-cast, resolved_number}
-use Rattle.packing.proofs.Lists.{resolved-short, resolved-kept, resolved-answer, resolved-laid}
+use Rattle.packing.proofs.Widths.{row_cast, bound_cast, moves_cast, resolved_number_lem}
+use Rattle.packing.proofs.Lists.{resolved_short, resolved_kept, resolved_answer, resolved_laid}
 use Rattle.packing.proofs.resolved.Statement.{statement}
 use Rattle.packing.proofs.resolved.Tie as tie
 
@@ -12,17 +12,17 @@ resolved-spec =
     tie.close
     (tie.spec
     (λ c κs. search rules)
-    (λ c. (search resolved-short, search resolved-kept))
+    (λ c. (search resolved_short, search resolved_kept))
     (λ c κs. search rules)
-    (λ c. search row-cast)
+    (λ c. search row_cast)
     (λ c. search rules)
     (λ c κs. search rules)
-    (λ c. search bound-cast)
+    (λ c. search bound_cast)
     (λ c. simp length-set (omega arith))
     (λ c κs. search rules)
-    (λ c. search moves-cast)
+    (λ c. search moves_cast)
     (λ c. simp length-set (omega arith))
     (λ c κs. search rules)
-    (λ c κs. (search resolved_number, search rules))
+    (λ c κs. (search resolved_number_lem, search rules))
     (λ c. search rules)
-    (λ c. (search resolved-answer, search resolved-laid)))
+    (λ c. (search resolved_answer, search resolved_laid)))

@@ -1,7 +1,7 @@
 -- `panxidell_c::panxidell_along` meets its contract. Assumes nothing.
 use borrow.Author.Rules.{rules}
 use Rattle.packing.proofs.Same.{step_same}
-use Rattle.bounds.proofs.Bounds.{along-packs}
+use Rattle.bounds.proofs.Bounds.{along_packs}
 use Rattle.panxidell_c.proofs.panxidell_along.Statement.{statement}
 use Rattle.panxidell_c.proofs.panxidell_along.Tie as tie
 
@@ -10,5 +10,5 @@ panxidell-along-spec =
     tie.close
     (tie.spec
     (λ c κs. search rules)
-    (λ c κs. along-packs _ _ _ _ (λ i. (c.before.shared-slice-known.given i).fits) c.step-along.ensures)
+    (λ c κs. along_packs _ _ _ _ (λ i. (c.before.shared-slice-known.given i).fits) c.step-along.ensures)
     (λ c. search step_same))

@@ -1,6 +1,6 @@
 -- `panxidell_c::panxidell_check` meets its contract. Assumes nothing.
 use borrow.Author.Rules.{rules}
-use Rattle.packing.proofs.Same.{checked-same}
+use Rattle.packing.proofs.Same.{checked_same}
 use Rattle.bounds.proofs.Bounds.{checked-beside}
 use Rattle.panxidell_c.proofs.panxidell_check.Statement.{statement}
 use Rattle.panxidell_c.proofs.panxidell_check.Tie as tie
@@ -11,4 +11,4 @@ panxidell-check-spec =
     (tie.spec
     (λ c κs. search rules)
     (λ c κs. search checked-beside)
-    (λ c. search checked-same))
+    (λ c. search checked_same))

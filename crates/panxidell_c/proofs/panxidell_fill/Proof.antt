@@ -1,6 +1,6 @@
 -- `panxidell_c::panxidell_fill` meets its contract. Assumes nothing.
 use borrow.Author.Rules.{rules}
-use Rattle.packing.proofs.Same.{answer-same}
+use Rattle.packing.proofs.Same.{answer_same}
 use Rattle.bounds.proofs.Bounds.{answer-beside}
 use Rattle.panxidell_c.proofs.panxidell_fill.Statement.{statement}
 use Rattle.panxidell_c.proofs.panxidell_fill.Tie as tie
@@ -12,4 +12,4 @@ panxidell-fill-spec =
     (λ c κs. search rules)
     (λ c κs. search answer-beside)
     (λ c. search rules)
-    (λ c. (search answer-same, search rules)))
+    (λ c. (search answer_same, search rules)))

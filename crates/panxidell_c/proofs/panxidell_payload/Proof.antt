@@ -1,7 +1,7 @@
 -- `panxidell_c::panxidell_payload` meets its contract. Assumes nothing.
 use borrow.Author.Rules.{rules}
-use Rattle.packing.proofs.Same.{part_same, part-list}
-use Rattle.bounds.proofs.Bounds.{payload-short}
+use Rattle.packing.proofs.Same.{part_same, part_list}
+use Rattle.bounds.proofs.Bounds.{payload_short}
 use Rattle.panxidell_c.proofs.panxidell_payload.Statement.{statement}
 use Rattle.panxidell_c.proofs.panxidell_payload.Tie as tie
 
@@ -10,6 +10,6 @@ panxidell-payload-spec =
     tie.close
     (tie.spec
     (λ c κs. search rules)
-    (λ c κs. payload-short _ (λ i. (c.before.before.before.before.shared-slice-known.given i).fits) _ _ _ c.payload-at.ensures)
+    (λ c κs. payload_short _ (λ i. (c.before.before.before.before.shared-slice-known.given i).fits) _ _ _ c.payload-at.ensures)
     (λ c. search rules)
-    (λ c. (search part_same, search part-list)))
+    (λ c. (search part_same, search part_list)))

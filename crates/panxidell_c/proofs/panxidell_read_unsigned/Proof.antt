@@ -1,7 +1,7 @@
 -- `panxidell_c::panxidell_read_unsigned` meets its contract. Assumes nothing.
 use borrow.Author.Rules.{rules}
-use Rattle.packing.proofs.Same.{read_same, read-list}
-use Rattle.bounds.proofs.Bounds.{unsigned-used}
+use Rattle.packing.proofs.Same.{read_same, read_list}
+use Rattle.bounds.proofs.Bounds.{unsigned_used}
 use Rattle.panxidell_c.proofs.panxidell_read_unsigned.Statement.{statement}
 use Rattle.panxidell_c.proofs.panxidell_read_unsigned.Tie as tie
 
@@ -10,6 +10,6 @@ panxidell-read-unsigned-spec =
     tie.close
     (tie.spec
     (λ c κs. search rules)
-    (λ c κs. search unsigned-used)
+    (λ c κs. search unsigned_used)
     (λ c. search rules)
-    (λ c. (search read_same, search read-list)))
+    (λ c. (search read_same, search read_list)))

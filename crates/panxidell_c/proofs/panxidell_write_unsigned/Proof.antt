@@ -1,6 +1,6 @@
 -- `panxidell_c::panxidell_write_unsigned` meets its contract. Assumes nothing.
 use borrow.Author.Rules.{rules}
-use Rattle.packing.proofs.Same.{coded-same}
+use Rattle.packing.proofs.Same.{coded_same}
 use Rattle.bounds.proofs.Bounds.{unsigned-few}
 use Rattle.panxidell_c.proofs.panxidell_write_unsigned.Statement.{statement}
 use Rattle.panxidell_c.proofs.panxidell_write_unsigned.Tie as tie
@@ -12,4 +12,4 @@ panxidell-write-unsigned-spec =
     (λ c κs. search rules)
     (λ c κs. search unsigned-few)
     (λ c. search rules)
-    (λ c. (search coded-same, search rules)))
+    (λ c. (search coded_same, search rules)))

@@ -1,6 +1,6 @@
 -- `payload::payload` meets its contract. Assumes nothing.
 use borrow.Author.Rules.{rules}
-use Rattle.payload.proofs.Parts.{part-fits, part-within, part_lies}
+use Rattle.payload.proofs.Parts.{part-fits, part_within, part_lies}
 use Rattle.payload.proofs.payload.Statement.{statement}
 use Rattle.payload.proofs.payload.Tie as tie
 
@@ -8,7 +8,7 @@ add-to : tie.Need-overflow-add-to
 add-to c = search part-fits
 
 part-result-end : tie.Need-slice-bounds-result-end
-part-result-end c = search part-within
+part-result-end c = search part_within
 
 returns : tie.Need-returns
 returns c = search part_lies

@@ -1,6 +1,6 @@
 -- `payload::payload_at` meets its contract. Assumes nothing.
 use borrow.Author.Rules.{rules}
-use Rattle.payload.proofs.Parts.{part_out, part-yes, part-beyond, part_none}
+use Rattle.payload.proofs.Parts.{part_out, part_yes, part_beyond, part_none}
 use Rattle.payload.proofs.payload_at.Statement.{statement}
 use Rattle.payload.proofs.payload_at.Tie as tie
 
@@ -8,10 +8,10 @@ returns : tie.Need-returns
 returns c = search part_out
 
 returns-2 : tie.Need-returns-2
-returns-2 c = search part-yes
+returns-2 c = search part_yes
 
 returns-3 : tie.Need-returns-3
-returns-3 c = search part-beyond
+returns-3 c = search part_beyond
 
 returns-4 : tie.Need-returns-4
 returns-4 c = search part_none

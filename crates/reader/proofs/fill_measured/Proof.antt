@@ -1,6 +1,6 @@
 -- `reader::fill_measured` meets its contract: two laws of Answers for each way out. Assumes nothing.
 use borrow.Author.Rules.{rules}
-use Rattle.reader.proofs.Answers.{accepted, accepted-rows, full, full-zeros, refused, refused-zeros, rows-lent, used-fits}
+use Rattle.reader.proofs.Answers.{accepted, accepted-rows, full, full-zeros, refused, refused-zeros, rows-lent, used_fits}
 use Rattle.reader.proofs.fill_measured.Statement.{statement}
 use Rattle.reader.proofs.fill_measured.Tie as tie
 
@@ -17,7 +17,7 @@ fill-measured-spec =
     (λ c κs. search rules)
     (λ c κs. search rules)
     (λ c κs. (search rows-lent, search rules))
-    (λ c. search used-fits)
+    (λ c. search used_fits)
     (λ c κs. search rules)
     (λ c. search rules)
     (λ c. (search accepted, search accepted-rows))

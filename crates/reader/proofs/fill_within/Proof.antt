@@ -1,6 +1,6 @@
 -- `reader::fill_within` meets its contract: two laws of Answers for what is too long. Assumes nothing.
 use borrow.Author.Rules.{rules}
-use Rattle.reader.proofs.Answers.{too_long, too-long-zeros}
+use Rattle.reader.proofs.Answers.{too_long, too_long-zeros}
 use Rattle.reader.proofs.fill_within.Statement.{statement}
 use Rattle.reader.proofs.fill_within.Tie as tie
 
@@ -10,7 +10,7 @@ fill-within-spec =
     (tie.spec
     (λ c κs. search rules)
     (λ c. search rules)
-    (λ c. (search too_long, search too-long-zeros))
+    (λ c. (search too_long, search too_long-zeros))
     (λ c κs. search rules)
     (λ c. search rules)
     (λ c. search rules))

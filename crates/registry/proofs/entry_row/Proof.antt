@@ -2,8 +2,8 @@
 use mathlib.Core.Path.{◌≡◌}
 use Prim.Native.Nat.{◌-◌, ◌≤◌}
 use borrow.Author.Rules.{rules}
-use Rattle.registry.specs.Contracts.{walk}
-use Rattle.registry.proofs.Walks.{walk_start, walk-next, walk-done, walk-lent}
+use Rattle.registry.specs.Inner.{walk}
+use Rattle.registry.proofs.Walks.{walk_start, walk-next, walk_done, walk-lent}
 use Rattle.registry.proofs.entry_row.Statement.{statement}
 use Rattle.registry.proofs.entry_row.Tie as tie
 
@@ -23,7 +23,7 @@ loop-again : tie.Need-loop-preserved invariant-loop decreases-loop
 loop-again c = search (walk-next, rules)
 
 returns : tie.Need-returns invariant-loop decreases-loop
-returns c = search walk-done
+returns c = search walk_done
 
 pub entry-row-spec : {M : Type 1} → statement M
 entry-row-spec =

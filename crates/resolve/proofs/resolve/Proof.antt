@@ -1,7 +1,7 @@
 -- `resolve::resolve` meets its contract. Assumes nothing.
 use borrow.Author.Rules.{rules}
 use Prim.Native.Nat.{◌-◌}
-use Rattle.resolve.proofs.Moving.{Chasing, few-lent, chasing-first, chasing-stop, chasing-next, chasing-broken, chasing-all, stop-lent}
+use Rattle.resolve.proofs.Moving.{Chasing, few-lent, chasing_first, chasing_stop, chasing_next, chasing_broken, chasing_all, stop_lent}
 use Rattle.resolve.proofs.resolve.Statement.{statement}
 use Rattle.resolve.proofs.resolve.Tie as tie
 
@@ -15,22 +15,22 @@ returns : tie.Need-returns invariant-loop decreases-loop
 returns c = search few-lent
 
 loop-holds : tie.Need-loop-init invariant-loop decreases-loop
-loop-holds c = search chasing-first
+loop-holds c = search chasing_first
 
 end-at-requires : tie.Need-end-at-requires invariant-loop decreases-loop
-end-at-requires c κs = search stop-lent
+end-at-requires c κs = search stop_lent
 
 returns-2 : tie.Need-returns-2 invariant-loop decreases-loop
-returns-2 c = search chasing-stop
+returns-2 c = search chasing_stop
 
 loop-again : tie.Need-loop-preserved invariant-loop decreases-loop
-loop-again c = search chasing-next
+loop-again c = search chasing_next
 
 returns-3 : tie.Need-returns-3 invariant-loop decreases-loop
-returns-3 c = search chasing-broken
+returns-3 c = search chasing_broken
 
 returns-4 : tie.Need-returns-4 invariant-loop decreases-loop
-returns-4 c = search chasing-all
+returns-4 c = search chasing_all
 
 pub resolve-spec : {M : Type 1} → statement M
 resolve-spec =

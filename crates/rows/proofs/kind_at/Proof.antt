@@ -1,11 +1,11 @@
 -- `rows::kind_at` meets its contract: the kind is that word of the row. Assumes nothing.
 use borrow.Author.Rules.{rules}
-use Rattle.rows.specs.Table.{rowAt}
+use Rattle.rows.specs.Table.{row_at}
 use Rattle.rows.proofs.kind_at.Statement.{statement}
 use Rattle.rows.proofs.kind_at.Tie as tie
 
 returns : tie.Need-returns
-unfolding rowAt
+unfolding row_at
 returns c = search rules
 
 pub kind-at-spec : {M : Type 1} → statement M

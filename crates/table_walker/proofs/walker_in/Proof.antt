@@ -3,8 +3,8 @@ use mathlib.Core.Path.{refl}
 use contract.Running.{tables, tables_of}
 use denote.Triple.Spec.{triple_of}
 use denote.Triple.Table.{entered, cited}
-use Rattle.walker.specs.Walk.{stepIn}
-use Rattle.table_walker.specs.TableWalker.{walkerIn}
+use Rattle.walker.specs.Walk.{step_in}
+use Rattle.table_walker.specs.TableWalker.{walker_in}
 use Rattle.table_walker.proofs.Apart.{Called, meets}
 use Rattle.walker.proofs.in_from.Symbol as called
 use Rattle.walker.proofs.in_from.Symbol.{name as #walker·in-from}
@@ -19,5 +19,5 @@ unfolding code.routine tables_of
 walker-in-spec 𝓤 𝓛 𝓜 𝓡 =
     entered 𝓤 𝓛.H (triple_of 𝓛 walker-in.signature (walker-in.spec 𝓛 𝓜.mem 𝓡.run))
     (tables 𝓤 𝓛.H 𝓜 𝓡 code.env).C (tables 𝓤 𝓛.H 𝓜 𝓡 code.env).Λ #table-walker·walker-in code.function (code.unfolded 𝓤 𝓛.H 𝓜 𝓡)
-    (meets 𝓛 stepIn walkerIn (λ d. refl) #walker·in-from (tables_of 𝓤 𝓛.H 𝓜 (tables 𝓤 𝓛.H 𝓜 𝓡 code.env))
-    (cited 𝓤 𝓛.H (Called 𝓛 stepIn) 𝓜 𝓡 code.env #walker·in-from called.routine code.calls-walker·in-from (thm.met 𝓤 𝓛 𝓜 𝓡)))
+    (meets 𝓛 step_in walker_in (λ d. refl) #walker·in-from (tables_of 𝓤 𝓛.H 𝓜 (tables 𝓤 𝓛.H 𝓜 𝓡 code.env))
+    (cited 𝓤 𝓛.H (Called 𝓛 step_in) 𝓜 𝓡 code.env #walker·in-from called.routine code.calls-walker·in-from (thm.met 𝓤 𝓛 𝓜 𝓡)))

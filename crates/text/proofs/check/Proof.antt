@@ -2,9 +2,9 @@
 -- continuation byte the sequence stands exactly when what is left of it fits (Passing). Assumes nothing.
 use Prim.Native.Nat.{◌-◌}
 use borrow.Author.Rules.{rules}
-use borrow.Author.Tests.{not-true, not-false}
+use borrow.Author.Tests.{not-true, not_false}
 use lib.ListN.{length}
-use Rattle.text.proofs.Steps.{Reached, Passing, start, at-end, passed-plain, no_lead, lead, cut, turn, outside, whole}
+use Rattle.text.proofs.Steps.{Reached, Passing, start, at_end, passed_plain, no_lead, lead, cut, turn, outside, whole}
 use Rattle.text.proofs.check.Statement.{statement}
 use Rattle.text.proofs.check.Tie as tie
 
@@ -30,7 +30,7 @@ check-spec =
     decreases-sequences
     (λ c. search start)
     (λ c κs. search rules)
-    (λ c. search (at-end, passed-plain))
+    (λ c. search (at_end, passed_plain))
     (λ c. search rules)
     (λ c κs. search rules)
     (λ c. search rules)
@@ -38,14 +38,14 @@ check-spec =
     (λ c. search rules)
     (λ c. search rules)
     (λ c. search rules)
-    (λ c. search (lead, passed-plain, rules))
+    (λ c. search (lead, passed_plain, rules))
     (λ c. search rules)
     (λ c κs. search rules)
     (λ c. search rules)
     (λ c. search rules)
-    (λ c. search (turn, not-false))
+    (λ c. search (turn, not_false))
     (λ c. search rules)
     (λ c. search whole)
-    (λ c. search (no_lead, passed-plain, rules))
-    (λ c. search (cut, passed-plain, rules))
+    (λ c. search (no_lead, passed_plain, rules))
+    (λ c. search (cut, passed_plain, rules))
     (λ c. search (outside, c.before.before.before.before.loop.invariant, c.before.within.ensures, not-true)))

@@ -1,7 +1,7 @@
 -- `text::is_well_formed` meets its contract. Assumes nothing.
 use mathlib.Core.Path.{sym, ap, ◌∙◌}
 use borrow.Author.Rules.{rules}
-use Rattle.text.specs.Check.{wellFormed}
+use Rattle.text.specs.Check.{well_formed}
 use Rattle.text.proofs.is_well_formed.Statement.{statement}
 use Rattle.text.proofs.is_well_formed.Tie as tie
 
@@ -12,5 +12,5 @@ is-well-formed-spec =
     (λ c κs. search rules)
     (λ c. search rules)
     (λ c. search rules)
-    (λ c. ap wellFormed (sym c.enum_told.given.1 ∙ c.before.before.check.ensures))
-    (λ c. ap wellFormed (sym c.enum-told2.given.1 ∙ c.before.before.check.ensures)))
+    (λ c. ap well_formed (sym c.enum_told.given.1 ∙ c.before.before.check.ensures))
+    (λ c. ap well_formed (sym c.enum-told2.given.1 ∙ c.before.before.check.ensures)))

@@ -1,17 +1,17 @@
--- `checker::one::key_row` meets its contract. Assumes nothing.
+-- `checker::one::key_row_lem` meets its contract. Assumes nothing.
 use borrow.Author.Rules.{rules}
-use Rattle.checker.proofs.Leaves.{key-other, key-yes, key-no}
+use Rattle.checker.proofs.Leaves.{key_other, key_yes, key_no}
 use Rattle.checker.proofs.one.key_row.Statement.{statement}
 use Rattle.checker.proofs.one.key_row.Tie as tie
 
 returns : tie.Need-returns
-returns c = search key-other
+returns c = search key_other
 
 returns-2 : tie.Need-returns-2
-returns-2 c = search key-yes
+returns-2 c = search key_yes
 
 returns-3 : tie.Need-returns-3
-returns-3 c = search key-no
+returns-3 c = search key_no
 
 pub key-row-spec : {M : Type 1} → statement M
 key-row-spec =

@@ -1,8 +1,8 @@
 -- `heads::behind::binary` meets its contract. Assumes nothing.
 use mathlib.Core.Path.{◌∙◌, sym, ap}
-use Rattle.wide.specs.Members.{keyLength}
-use Rattle.format.specs.Head.{binaryHead}
-use Rattle.format.proofs.Heads.{count-within}
+use Rattle.wide.specs.Members.{key_length}
+use Rattle.format.specs.Head.{binary_head}
+use Rattle.format.proofs.Heads.{count_within}
 use borrow.Author.Rules.{rules}
 use Rattle.heads.proofs.behind.binary.Statement.{statement}
 use Rattle.heads.proofs.behind.binary.Tie as tie
@@ -10,17 +10,17 @@ use Rattle.heads.proofs.behind.binary.Tie as tie
 bodied-requires : tie.Need-bodied-requires
 bodied-requires c κs =
     let a = c.before.before.before.before.before.args in
-    count-within keyLength a.s.now a.from a.stop c.before.before.before.length_at.result c.before.before.before.length_at.ensures _ _ c.before.c.given.1
+    count_within key_length a.s.now a.from a.stop c.before.before.before.length_at.result c.before.before.before.length_at.ensures _ _ c.before.c.given.1
 
 returns : tie.Need-returns
 returns c =
     let a = c.before.before.before.before.before.before.args in
-    c.bodied.ensures ∙ ap (binaryHead a.at a.stop) (sym c.before.before.c.given.1 ∙ c.before.before.before.before.length_at.ensures)
+    c.bodied.ensures ∙ ap (binary_head a.at a.stop) (sym c.before.before.c.given.1 ∙ c.before.before.before.before.length_at.ensures)
 
 returns-2 : tie.Need-returns-2
 returns-2 c =
     let a = c.before.before.before.before.before.args in
-    ap (binaryHead a.at a.stop) (sym c.before.c2.given.1 ∙ c.before.before.before.length_at.ensures)
+    ap (binary_head a.at a.stop) (sym c.before.c2.given.1 ∙ c.before.before.before.length_at.ensures)
 
 pub binary-spec : {M : Type 1} → statement M
 binary-spec =

@@ -1,6 +1,6 @@
 -- `heads::behind::holder` meets its contract. Assumes nothing.
 use mathlib.Core.Path.{◌∙◌, sym, ap}
-use Rattle.format.specs.Head.{holderHead}
+use Rattle.format.specs.Head.{holder_head}
 use borrow.Author.Rules.{rules}
 use Rattle.heads.proofs.behind.holder.Statement.{statement}
 use Rattle.heads.proofs.behind.holder.Tie as tie
@@ -8,12 +8,12 @@ use Rattle.heads.proofs.behind.holder.Tie as tie
 returns : tie.Need-returns
 returns c =
     let a = c.before.before.before.before.before.args in
-    ap (holderHead a.holder a.at) (sym c.before.c.given.1 ∙ c.before.before.before.length_at.ensures)
+    ap (holder_head a.holder a.at) (sym c.before.c.given.1 ∙ c.before.before.before.length_at.ensures)
 
 returns-2 : tie.Need-returns-2
 returns-2 c =
     let a = c.before.before.before.before.before.args in
-    ap (holderHead a.holder a.at) (sym c.before.c2.given.1 ∙ c.before.before.before.length_at.ensures)
+    ap (holder_head a.holder a.at) (sym c.before.c2.given.1 ∙ c.before.before.before.length_at.ensures)
 
 pub holder-spec : {M : Type 1} → statement M
 holder-spec = tie.close (tie.spec (λ c κs. search rules) (λ c. search rules) (λ c. search rules) returns returns-2)

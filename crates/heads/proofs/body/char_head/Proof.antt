@@ -1,11 +1,11 @@
 -- `heads::body::char_head` meets its contract. Assumes nothing.
-use Rattle.heads.proofs.Positions.{char-cut, char-good, char-bad}
+use Rattle.heads.proofs.Positions.{char_cut, char-good, char-bad}
 use borrow.Author.Rules.{rules}
 use Rattle.heads.proofs.body.char_head.Statement.{statement}
 use Rattle.heads.proofs.body.char_head.Tie as tie
 
 returns : tie.Need-returns
-returns c = search (char-cut, rules)
+returns c = search (char_cut, rules)
 
 returns-2 : tie.Need-returns-2
 returns-2 c = search (char-good, rules)

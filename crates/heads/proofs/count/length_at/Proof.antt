@@ -1,11 +1,11 @@
 -- `heads::count::length_at` meets its contract. Assumes nothing.
-use Rattle.heads.proofs.Counts.{length-missing, length-one}
+use Rattle.heads.proofs.Counts.{length_missing, length-one}
 use borrow.Author.Rules.{rules}
 use Rattle.heads.proofs.count.length_at.Statement.{statement}
 use Rattle.heads.proofs.count.length_at.Tie as tie
 
 returns : tie.Need-returns
-returns c = search (length-missing, rules)
+returns c = search (length_missing, rules)
 
 returns-2 : tie.Need-returns-2
 returns-2 c = search (length-one, rules)

@@ -1,20 +1,20 @@
 -- `heads::position::low` meets its contract. Assumes nothing.
-use Rattle.heads.proofs.Positions.{head-constant, head-float, head-signed, head-unsigned}
+use Rattle.heads.proofs.Positions.{head_constant, head_float, head_signed, head_unsigned}
 use borrow.Author.Rules.{rules}
 use Rattle.heads.proofs.position.low.Statement.{statement}
 use Rattle.heads.proofs.position.low.Tie as tie
 
 returns : tie.Need-returns
-returns c = search (head-constant, rules)
+returns c = search (head_constant, rules)
 
 returns-2 : tie.Need-returns-2
-returns-2 c = search (head-float, rules)
+returns-2 c = search (head_float, rules)
 
 returns-4 : tie.Need-returns-4
-returns-4 c = search (head-signed, rules)
+returns-4 c = search (head_signed, rules)
 
 returns-5 : tie.Need-returns-5
-returns-5 c = search (head-unsigned, rules)
+returns-5 c = search (head_unsigned, rules)
 
 pub low-spec : {M : Type 1} → statement M
 low-spec =

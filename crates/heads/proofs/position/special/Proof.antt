@@ -1,14 +1,14 @@
 -- `heads::position::special` meets its contract. Assumes nothing.
-use Rattle.heads.proofs.Positions.{special-cut, special-declaration, special-foreign, special-other}
+use Rattle.heads.proofs.Positions.{special_cut, special_declaration, special-foreign, special-other}
 use borrow.Author.Rules.{rules}
 use Rattle.heads.proofs.position.special.Statement.{statement}
 use Rattle.heads.proofs.position.special.Tie as tie
 
 returns : tie.Need-returns
-returns c = search (special-cut, rules)
+returns c = search (special_cut, rules)
 
 returns-2 : tie.Need-returns-2
-returns-2 c = search (special-declaration, rules)
+returns-2 c = search (special_declaration, rules)
 
 returns-3 : tie.Need-returns-3
 returns-3 c = search (special-foreign, rules)

@@ -1,6 +1,6 @@
 -- `laying::one::lay_marked` meets its contract: a law of Lays for each way out. Assumes nothing.
 use borrow.Author.Rules.{rules}
-use Rattle.laying.proofs.Lays.{marked, marked-tried, none_tried}
+use Rattle.laying.proofs.Lays.{marked, marked_tried, none_tried}
 use Rattle.laying.proofs.one.lay_marked.Statement.{statement}
 use Rattle.laying.proofs.one.lay_marked.Tie as tie
 
@@ -15,4 +15,4 @@ lay-marked-spec =
     (λ c. search rules)
     (λ c κs. (search rules, (search marked, search rules, search rules)))
     (λ c. search rules)
-    (λ c. search marked-tried))
+    (λ c. search marked_tried))

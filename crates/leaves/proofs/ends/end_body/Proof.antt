@@ -1,6 +1,6 @@
 -- `leaves::ends::end_body` meets its contract. Assumes nothing.
 use borrow.Author.Rules.{rules}
-use Rattle.leaves.proofs.Straight.{end_none, end-there}
+use Rattle.leaves.proofs.Straight.{end_none, end_there}
 use Rattle.leaves.proofs.ends.end_body.Statement.{statement}
 use Rattle.leaves.proofs.ends.end_body.Tie as tie
 
@@ -11,4 +11,4 @@ end-body-spec =
     (λ c. search rules)
     (λ c. search end_none)
     (λ c. search rules)
-    (λ c. search end-there))
+    (λ c. search end_there))

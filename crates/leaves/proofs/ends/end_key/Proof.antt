@@ -1,6 +1,6 @@
 -- `leaves::ends::end_key` meets its contract. Assumes nothing.
 use borrow.Author.Rules.{rules}
-use Rattle.leaves.proofs.Straight.{key-asked, not_key}
+use Rattle.leaves.proofs.Straight.{key_asked, not_key}
 use Rattle.leaves.proofs.ends.end_key.Statement.{statement}
 use Rattle.leaves.proofs.ends.end_key.Tie as tie
 
@@ -14,4 +14,4 @@ end-key-spec =
     (λ c. search not_key)
     (λ c. search rules)
     (λ c κs. search rules)
-    (λ c. search key-asked))
+    (λ c. search key_asked))

@@ -1,6 +1,6 @@
 -- `leaves::ends::end_plain` meets its contract: a law of Straight for each way out. Assumes nothing.
 use borrow.Author.Rules.{rules}
-use Rattle.leaves.proofs.Straight.{asked-as, constant-asked, integer-asked, not-asked, small-asked, text_head}
+use Rattle.leaves.proofs.Straight.{asked_as, constant-asked, integer-asked, not_asked, small-asked, text_head_lem}
 use Rattle.leaves.proofs.ends.end_plain.Statement.{statement}
 use Rattle.leaves.proofs.ends.end_plain.Tie as tie
 
@@ -8,7 +8,7 @@ pub end-plain-spec : {M : Type 1} → statement M
 end-plain-spec =
     tie.close
     (tie.spec
-    (λ c. search not-asked)
+    (λ c. search not_asked)
     (λ c. search rules)
     (λ c κs. search rules)
     (λ c. search rules)
@@ -24,5 +24,5 @@ end-plain-spec =
     (λ c. search rules)
     (λ c. search rules)
     (λ c κs. search rules)
-    (λ c. search (asked-as, text_head))
-    (λ c. search not-asked))
+    (λ c. search (asked_as, text_head_lem))
+    (λ c. search not_asked))

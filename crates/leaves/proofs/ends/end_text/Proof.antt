@@ -1,6 +1,6 @@
 -- `leaves::ends::end_text` meets its contract. Assumes nothing.
 use borrow.Author.Rules.{rules}
-use Rattle.leaves.proofs.Straight.{not-asked, text-asked}
+use Rattle.leaves.proofs.Straight.{not_asked, text-asked}
 use Rattle.leaves.proofs.ends.end_text.Statement.{statement}
 use Rattle.leaves.proofs.ends.end_text.Tie as tie
 
@@ -9,11 +9,11 @@ end-text-spec =
     tie.close
     (tie.spec
     (λ c. search rules)
-    (λ c. search not-asked)
+    (λ c. search not_asked)
     (λ c. search rules)
     (λ c. search rules)
     (λ c. search rules)
     (λ c. search rules)
     (λ c κs. search rules)
     (λ c. search text-asked)
-    (λ c. search not-asked))
+    (λ c. search not_asked))

@@ -1,20 +1,20 @@
 -- `leaves::leaf::leaf_row` meets its contract: a law of Leaves for each way out. Assumes nothing.
 use native.Mathlib.Omega.{arith}
 use borrow.Author.Rules.{rules}
-use Rattle.leaves.proofs.Leaves.{sane-body, sane-part, constant-row, small_row, integer-row, span-row, char-row}
+use Rattle.leaves.proofs.Leaves.{sane_body, sane_part, constant-row, small_row, integer-row, span-row, char-row}
 use Rattle.leaves.proofs.leaf.leaf_row.Statement.{statement}
 use Rattle.leaves.proofs.leaf.leaf_row.Tie as tie
 
 read-body-requires : tie.Need-read-body-requires
 read-body-requires c κs =
     let a = c.before.before.before.before in
-    let b = sane-body a.args.s.now a.args.c a.requires.1 _ _ _ c.before.c3.given.1 in
+    let b = sane_body a.args.s.now a.args.c a.requires.1 _ _ _ c.before.c3.given.1 in
     omega arith
 
 span-requires : tie.Need-span-requires
 span-requires c κs =
     let a = c.before.before.before.before in
-    let p = sane-part a.args.s.now a.args.c a.requires.1 _ _ _ c.before.c4.given.1 in
+    let p = sane_part a.args.s.now a.args.c a.requires.1 _ _ _ c.before.c4.given.1 in
     omega (arith, a.requires.0)
 
 returns : tie.Need-returns

@@ -1,6 +1,6 @@
 -- `measure::told::ended` meets its contract: a law of Numbers for each way out. Assumes nothing.
 use borrow.Author.Rules.{rules}
-use Rattle.measure.proofs.Numbers.{end_refused, end-there, end-longer}
+use Rattle.measure.proofs.Numbers.{end_refused, end_there, end-longer}
 use Rattle.measure.proofs.told.ended.Statement.{statement}
 use Rattle.measure.proofs.told.ended.Tie as tie
 
@@ -10,6 +10,6 @@ ended-spec =
     (tie.spec
     (λ c. search end_refused)
     (λ c κs. search rules)
-    (λ c. search end-there)
+    (λ c. search end_there)
     (λ c κs. search rules)
     (λ c. search end-longer))

@@ -1,6 +1,6 @@
 -- `measure::told::wrong` meets its contract. Assumes nothing.
 use borrow.Author.Rules.{rules}
-use Rattle.measure.proofs.Numbers.{tell-wrong, number_fits, wrong-fits}
+use Rattle.measure.proofs.Numbers.{tell_wrong, number_fits, wrong-fits}
 use Rattle.measure.proofs.told.wrong.Statement.{statement}
 use Rattle.measure.proofs.told.wrong.Tie as tie
 
@@ -12,4 +12,4 @@ wrong-spec =
     (λ c. search rules)
     (λ c. search number_fits)
     (λ c. search wrong-fits)
-    (λ c. search tell-wrong))
+    (λ c. search tell_wrong))

@@ -1,5 +1,5 @@
 -- `plan::own::head_of` meets its contract. Assumes nothing.
-use Rattle.plan.proofs.Owns.{constant-low, constant-byte, constant-head, small-head, signed-head, unsigned-head, float-head, text_head, holder-head, binary-head, char-head, reference-head, declaration-head, whole-head, damaged-head, key-head, unknown-head}
+use Rattle.plan.proofs.Owns.{constant-low, constant-byte, constant_head, small_head, signed_head, unsigned_head, float_head, text_head_lem, holder-head, binary-head, char-head, reference_head, declaration_head, whole_head, damaged_head, key_head, unknown_head}
 use borrow.Author.Rules.{rules}
 use Rattle.plan.proofs.own.head_of.Statement.{statement}
 use Rattle.plan.proofs.own.head_of.Tie as tie
@@ -61,18 +61,18 @@ head-of-spec =
     (λ c κs. search rules)
     (λ c. search rules)
     (λ c κs. search rules)
-    (λ c. search (constant-head, rules))
-    (λ c. search (small-head, rules))
-    (λ c. search (signed-head, rules) fits 20000)
-    (λ c. search (unsigned-head, rules))
-    (λ c. search (float-head, rules))
-    (λ c. search (text_head, rules))
+    (λ c. search (constant_head, rules))
+    (λ c. search (small_head, rules))
+    (λ c. search (signed_head, rules) fits 20000)
+    (λ c. search (unsigned_head, rules))
+    (λ c. search (float_head, rules))
+    (λ c. search (text_head_lem, rules))
     (λ c. search (holder-head, rules))
     (λ c. search (binary-head, rules))
     (λ c. search (char-head, rules))
-    (λ c. search (reference-head, rules))
-    (λ c. search (declaration-head, rules))
-    (λ c. search (whole-head, rules))
-    (λ c. search (damaged-head, rules))
-    (λ c. search (key-head, rules))
-    (λ c. search (unknown-head, rules)))
+    (λ c. search (reference_head, rules))
+    (λ c. search (declaration_head, rules))
+    (λ c. search (whole_head, rules))
+    (λ c. search (damaged_head, rules))
+    (λ c. search (key_head, rules))
+    (λ c. search (unknown_head, rules)))

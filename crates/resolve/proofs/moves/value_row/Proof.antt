@@ -1,6 +1,6 @@
 -- `resolve::moves::value_row` meets its contract. Assumes nothing.
 use borrow.Author.Rules.{rules}
-use Rattle.resolve.proofs.Moving.{Past, past_first, past-out, past-low, past-high, past_next, value_out, value-past, value-at}
+use Rattle.resolve.proofs.Moving.{Past, past_first, past_out, past-low, past_high, past_next, value_out, value-past, value_at}
 use Rattle.resolve.proofs.moves.value_row.Statement.{statement}
 use Rattle.resolve.proofs.moves.value_row.Tie as tie
 
@@ -14,13 +14,13 @@ loop-holds : tie.Need-loop-init invariant-loop decreases-loop
 loop-holds c = search past_first
 
 returns : tie.Need-returns invariant-loop decreases-loop
-returns c = search past-out
+returns c = search past_out
 
 returns-2 : tie.Need-returns-2 invariant-loop decreases-loop
 returns-2 c = search past-low
 
 returns-3 : tie.Need-returns-3 invariant-loop decreases-loop
-returns-3 c = search past-high
+returns-3 c = search past_high
 
 loop-again : tie.Need-loop-preserved invariant-loop decreases-loop
 loop-again c = search past_next
@@ -32,7 +32,7 @@ returns-5 : tie.Need-returns-5 invariant-loop decreases-loop
 returns-5 c = search value-past
 
 returns-6 : tie.Need-returns-6 invariant-loop decreases-loop
-returns-6 c = search value-at
+returns-6 c = search value_at
 
 pub value-row-spec : {M : Type 1} → statement M
 value-row-spec =

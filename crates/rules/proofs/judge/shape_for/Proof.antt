@@ -1,6 +1,6 @@
 -- `rules::judge::shape_for` meets its contract. Assumes nothing.
 use borrow.Author.Rules.{rules}
-use Rattle.rules.proofs.Judged.{holder-shape}
+use Rattle.rules.proofs.Judged.{holder_shape}
 use Rattle.rules.proofs.judge.shape_for.Statement.{statement}
 use Rattle.rules.proofs.judge.shape_for.Tie as tie
 
@@ -29,7 +29,7 @@ shape-for-spec =
     (λ c. search rules)
     (λ c. search rules)
     (λ c. search rules)
-    (λ c. search (rules, holder-shape))
+    (λ c. search (rules, holder_shape))
     (λ c. search rules)
     (λ c. search rules)
     (λ c. search rules)

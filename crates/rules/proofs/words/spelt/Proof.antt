@@ -1,7 +1,7 @@
 -- `rules::words::spelt` meets its contract. Assumes nothing.
 use borrow.Author.Rules.{rules}
 use Rattle.rules.specs.Shape.{spelt}
-use Rattle.rules.proofs.Judged.{part-within, spelt-as}
+use Rattle.rules.proofs.Judged.{part_within, spelt_as}
 use Rattle.lists.proofs.Tests.{and_no}
 use Rattle.rules.proofs.words.spelt.Statement.{statement}
 use Rattle.rules.proofs.words.spelt.Tie as tie
@@ -20,7 +20,7 @@ spelt-spec =
     (λ c. search rules)
     (λ c. search rules)
     (λ c. search rules)
-    (λ c. search part-within)
+    (λ c. search part_within)
     (λ c κs. search rules)
-    (λ c. search spelt-as)
+    (λ c. search spelt_as)
     returns-2)

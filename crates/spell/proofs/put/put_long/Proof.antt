@@ -5,7 +5,7 @@ use native.Mathlib.Omega.{arith}
 use lib.ListN.{length, take, drop}
 use lib.Seq.{sets}
 use borrow.Author.Rules.{rules}
-use Rattle.spell.proofs.Puts.{part-on, part-last}
+use Rattle.spell.proofs.Puts.{part_on, part_last}
 use Rattle.spell.proofs.put.put_long.Statement.{statement}
 use Rattle.spell.proofs.put.put_long.Tie as tie
 
@@ -25,7 +25,7 @@ loop-again c =
     let p = c.before.before.put-eight in (
       search rules,
       p.auto.0 ∙ l.invariant.1,
-      part-on a.out.now l.out p.new.0 a.«data».now a.at a.place l.i l.i 8 (omega arith) (omega arith) (search rules) l.invariant.2 p.ensures,
+      part_on a.out.now l.out p.new.0 a.«data».now a.at a.place l.i l.i 8 (omega arith) (omega arith) (search rules) l.invariant.2 p.ensures,
     )
 
 returns : tie.Need-returns invariant-loop decreases-loop
@@ -34,7 +34,7 @@ returns c =
     let a = s.args in
     let l = c.before.before.before.before.before.loop in
     let p = c.before.before.put-eight2 in
-    part-last a.out.now l.out p.new.0 a.«data».now a.at a.place a.size l.i s.requires.0 l.invariant.0 (search rules) s.requires.2 l.invariant.2 p.ensures
+    part_last a.out.now l.out p.new.0 a.«data».now a.at a.place a.size l.i s.requires.0 l.invariant.0 (search rules) s.requires.2 l.invariant.2 p.ensures
 
 pub put-long-spec : {M : Type 1} → statement M
 put-long-spec =

@@ -2,7 +2,7 @@
 use native.Mathlib.Omega.{arith}
 use lib.ListN.{length-set}
 use borrow.Author.Rules.{rules}
-use Rattle.spell.proofs.Puts.{one-mark, two-marks}
+use Rattle.spell.proofs.Puts.{one_mark, two_marks}
 use Rattle.spell.proofs.put.put_marks.Statement.{statement}
 use Rattle.spell.proofs.put.put_marks.Tie as tie
 
@@ -14,9 +14,9 @@ put-marks-spec =
     (λ c. search rules)
     (λ c. search rules)
     (λ c. search rules)
-    (λ c. (omega arith, search one-mark))
+    (λ c. (omega arith, search one_mark))
     (λ c. search rules)
     (λ c. simp length-set (omega arith))
     (λ c. search rules)
     (λ c. search rules)
-    (λ c. (omega arith, search two-marks)))
+    (λ c. (omega arith, search two_marks)))

@@ -4,7 +4,7 @@ use Prim.Native.Nat.{◌+◌, ◌-◌, ◌≤◌}
 use lib.ListN.{length, take, drop, length-set}
 use lib.Seq.{sets}
 use borrow.Author.Rules.{rules}
-use Rattle.spell.proofs.Puts.{part-start, part-turn, part_end}
+use Rattle.spell.proofs.Puts.{part_start, part_turn, part_end}
 use Rattle.spell.proofs.put.put_part.Statement.{statement}
 use Rattle.spell.proofs.put.put_part.Tie as tie
 
@@ -18,7 +18,7 @@ decreases-loop out₀ at «data» place size i₀ out i = size - i
 loop-holds : tie.Need-loop-init invariant-loop decreases-loop
 loop-holds c =
     let a = c.before.before.before.args in
-    (search rules, search rules, part-start a.out.now a.«data».now a.at a.place a.size)
+    (search rules, search rules, part_start a.out.now a.«data».now a.at a.place a.size)
 
 loop-again : tie.Need-loop-preserved invariant-loop decreases-loop
 loop-again c =
@@ -26,7 +26,7 @@ loop-again c =
     let l = c.before.before.loop in (
       search rules,
       simp length-set (search rules),
-      part-turn l.out _ a.«data».now a.at a.place a.size l.i _ (search rules) (search rules) refl l.invariant.2,
+      part_turn l.out _ a.«data».now a.at a.place a.size l.i _ (search rules) (search rules) refl l.invariant.2,
     )
 
 pub put-part-spec : {M : Type 1} → statement M

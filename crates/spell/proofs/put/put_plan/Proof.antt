@@ -4,12 +4,12 @@ use Prim.Native.Nat.{◌+◌, ◌≤◌}
 use native.Mathlib.Omega.{arith}
 use lib.ListN.{length, set, length-set}
 use borrow.Author.Rules.{rules}
-use Rattle.spell.proofs.Puts.{plan-long, plan-put}
+use Rattle.spell.proofs.Puts.{plan_long, plan_put}
 use Rattle.spell.proofs.put.put_plan.Statement.{statement}
 use Rattle.spell.proofs.put.put_plan.Tie as tie
 
 room : (c : tie.Start) → c.args.at + (c.args.p.marks + 1 + c.args.p.size) ≤ length c.args.out.now
-room c = omega (arith, c.requires.1, plan-long c.args.p c.requires.0)
+room c = omega (arith, c.requires.1, plan_long c.args.p c.requires.0)
 
 slice-write-out : tie.Need-slice-write-out
 slice-write-out c =
@@ -38,8 +38,8 @@ returns c =
     let s = c.before.before.before.before.before.before.before.before.before.before in
     let m = c.before.before.before.before.before.before.before.put-marks in
     let b = c.before.before.before.write-body in (
-      omega (arith, plan-long s.args.p s.requires.0, m.ensures.0),
-      plan-put s.args.out.now m.new.0 b.new.0 s.args.at m.result s.args.p s.requires.0 m.ensures.0 m.ensures.1 b.ensures,
+      omega (arith, plan_long s.args.p s.requires.0, m.ensures.0),
+      plan_put s.args.out.now m.new.0 b.new.0 s.args.at m.result s.args.p s.requires.0 m.ensures.0 m.ensures.1 b.ensures,
     )
 
 pub put-plan-spec : {M : Type 1} → statement M

@@ -3,7 +3,7 @@ use mathlib.Core.Path.{refl, sym}
 use mathlib.Core.Bool.{true}
 use native.Mathlib.Omega.{arith}
 use borrow.Author.Rules.{rules}
-use Rattle.spell.proofs.Puts.{plan-room, part_room, part-inside, row_next, row_laid}
+use Rattle.spell.proofs.Puts.{plan_room, part_room, part-inside, row_next, row_laid}
 use Rattle.spell.proofs.put.put_with.Statement.{statement}
 use Rattle.spell.proofs.put.put_with.Tie as tie
 
@@ -11,7 +11,7 @@ put-plan-requires : tie.Need-put-plan-requires
 put-plan-requires c κs =
     let s = c.before.before.before.before in
     let o = c.before.head_of in
-    (o.ensures.few, plan-room s.args.w s.args.size o.result o.ensures s.args.«data».now s.args.at s.args.out.now s.requires.2)
+    (o.ensures.few, plan_room s.args.w s.args.size o.result o.ensures s.args.«data».now s.args.at s.args.out.now s.requires.2)
 
 put-part-requires : tie.Need-put-part-requires
 put-part-requires c κs =

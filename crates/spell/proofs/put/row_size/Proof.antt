@@ -1,5 +1,5 @@
 -- `spell::put::row_size` meets its contract. Assumes nothing.
-use Rattle.spell.proofs.Puts.{size-with, size-without}
+use Rattle.spell.proofs.Puts.{size_with, size_without}
 use borrow.Author.Rules.{rules}
 use Rattle.spell.proofs.put.row_size.Statement.{statement}
 use Rattle.spell.proofs.put.row_size.Tie as tie
@@ -14,5 +14,5 @@ row-size-spec =
     (λ c κs. search rules)
     (λ c κs. search rules)
     (λ c. search rules)
-    (λ c. search (size-with, rules))
-    (λ c. search (size-without, rules)))
+    (λ c. search (size_with, rules))
+    (λ c. search (size_without, rules)))

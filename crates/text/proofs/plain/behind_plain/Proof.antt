@@ -2,9 +2,9 @@
 use Prim.Native.Nat.{◌-◌}
 use lib.ListN.{length}
 use borrow.Author.Rules.{rules}
-use borrow.Author.Tests.{not-false}
-use Rattle.text.specs.Contracts.{PlainTo}
-use Rattle.text.proofs.PlainRuns.{no_run, one_more, eight-more}
+use borrow.Author.Tests.{not_false}
+use Rattle.text.specs.Inner.{PlainTo}
+use Rattle.text.proofs.PlainRuns.{no_run, one_more, eight_more}
 use Rattle.text.proofs.plain.behind_plain.Statement.{statement}
 use Rattle.text.proofs.plain.behind_plain.Tie as tie
 
@@ -39,12 +39,12 @@ behind-plain-spec =
     (λ c. search rules)
     (λ c.
     let known = c.before.before.before.before.before.before.shared-slice-known2 in
-    eight-more _ _ _ _ (search rules) (search rules) (λ j. (known.given j).fits) c.before.eight.ensures (search rules))
+    eight_more _ _ _ _ (search rules) (search rules) (λ j. (known.given j).fits) c.before.eight.ensures (search rules))
     (λ c. search rules)
     (λ c. search rules)
     (λ c κs. search rules)
     (λ c. search rules)
     (λ c. search rules)
-    (λ c. one_more _ _ _ _ (search rules) (search rules) c.before.is-plain2.ensures (search (not-false, rules)))
+    (λ c. one_more _ _ _ _ (search rules) (search rules) c.before.is-plain2.ensures (search (not_false, rules)))
     (λ c. search rules)
     (λ c. search rules))

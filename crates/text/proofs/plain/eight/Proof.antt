@@ -1,6 +1,6 @@
 -- `text::plain::eight` meets its contract. Assumes nothing.
 use borrow.Author.Rules.{rules}
-use Rattle.text.proofs.PlainRuns.{eight-number}
+use Rattle.text.proofs.PlainRuns.{eight_number}
 use Rattle.text.proofs.plain.eight.Statement.{statement}
 use Rattle.text.proofs.plain.eight.Tie as tie
 
@@ -27,4 +27,4 @@ eight-spec =
     (λ c κs. search rules)
     (λ c. search rules)
     (λ c. search rules)
-    (λ c. search eight-number))
+    (λ c. search eight_number))

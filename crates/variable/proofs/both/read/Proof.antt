@@ -1,7 +1,7 @@
 -- `variable::both::read` meets its contract: a law of Variables for each way out. Assumes nothing.
 use Prim.Native.Nat.{◌<◌}
 use lib.ListN.{get_or}
-use Rattle.variable.proofs.Variables.{size-some, size_few, read_none, read_short, read-long, read-direct}
+use Rattle.variable.proofs.Variables.{size-some, size_few, read_none, read_short, read_long, read_direct}
 use borrow.Author.Rules.{rules}
 use Rattle.variable.proofs.both.read.Statement.{statement}
 use Rattle.variable.proofs.both.read.Tie as tie
@@ -20,12 +20,12 @@ read-body-requires c κs = (search (size-some, rules), search (size_few, rules),
 returns-3 : tie.Need-returns-3
 returns-3 c =
     let byte : get_or c.before.before.before.before.before.before.before.before.args.s.now 0 0 < 256 = (c.before.before.before.before.before.shared-slice-known2.given 0).fits in
-    search (read-long, rules)
+    search (read_long, rules)
 
 returns-4 : tie.Need-returns-4
 returns-4 c =
     let byte : get_or c.before.before.before.before.before.before.args.s.now 0 0 < 256 = (c.before.before.before.shared-slice-known2.given 0).fits in
-    search (read-direct, rules)
+    search (read_direct, rules)
 
 pub read_spec : {M : Type 1} → statement M
 read_spec =

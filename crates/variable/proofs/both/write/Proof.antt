@@ -8,11 +8,11 @@ use lib.ListN.{length, length-set}
 use Rattle.wide.specs.Number.{bytes_of}
 use Rattle.wide.specs.Words.{value_of}
 use Rattle.wide.specs.Family.{form}
-use Rattle.wide.specs.Contracts.{variable}
-use Rattle.wide.proofs.Wides.{Words, value-lt}
-use Rattle.wide.proofs.Ranks.{rank_lt, size-high}
+use Rattle.wide.specs.Inner.{variable}
+use Rattle.wide.proofs.Wides.{Words, value_lt}
+use Rattle.wide.proofs.Ranks.{rank_lt, size_high}
 use Rattle.variable.proofs.Variables.{first-low, form-one, form-long}
-use Rattle.variable.proofs.Writes.{no_room, wrote_one, long-length, wrote-long}
+use Rattle.variable.proofs.Writes.{no_room, wrote_one, long-length, wrote_long}
 use borrow.Author.Rules.{rules}
 use Rattle.variable.proofs.both.write.Statement.{statement}
 use Rattle.variable.proofs.both.write.Tie as tie
@@ -23,16 +23,16 @@ one : (c : tie.After-is-direct) (b : ℕ) → c.is-direct.result ≡ true → b 
 one c b t e =
     let a = c.before.before.args in
     let h : Words a.w = search rules in
-    form-one a.signed (value_of a.w) (value-lt a.w h) c.is-direct.result b c.is-direct.ensures t e
+    form-one a.signed (value_of a.w) (value_lt a.w h) c.is-direct.result b c.is-direct.ensures t e
 
 rank-small : (c : tie.After-rank-of) → c.rank-of.result < 8
 rank-small c =
     let a = c.before.before.before.before.args in
     let h : Words a.w = search rules in
-    omega (arith, c.rank-of.ensures, rank_lt a.signed (value_of a.w) (value-lt a.w h))
+    omega (arith, c.rank-of.ensures, rank_lt a.signed (value_of a.w) (value_lt a.w h))
 
 size_small : (c : tie.After-size-at) → c.size-at.result ≤ 16
-size_small c = omega (arith, c.size-at.ensures, size-high c.before.rank-of.result (rank-small c.before))
+size_small c = omega (arith, c.size-at.ensures, size_high c.before.rank-of.result (rank-small c.before))
 
 long : (c : tie.After-size-at) (f : ℕ) → f ≡ (variable c.before.before.before.before.before.args.signed).first
     → form (variable c.before.before.before.before.before.args.signed) (value_of c.before.before.before.before.before.args.w)
@@ -40,7 +40,7 @@ long : (c : tie.After-size-at) (f : ℕ) → f ≡ (variable c.before.before.bef
 long c f e =
     let a = c.before.before.before.before.before.args in
     let h : Words a.w = search rules in
-    form-long a.signed (value_of a.w) (value-lt a.w h) c.before.before.before.is-direct.result c.before.rank-of.result c.size-at.result f
+    form-long a.signed (value_of a.w) (value_lt a.w h) c.before.before.before.is-direct.result c.before.rank-of.result c.size-at.result f
     c.before.before.before.is-direct.ensures c.before.before.if1.false c.before.rank-of.ensures c.size-at.ensures e
 
 returns : tie.Need-returns
@@ -83,7 +83,7 @@ returns-4 : tie.Need-returns-4
 returns-4 c =
     let a = c.before.before.before.before.before.before.before.before.before.before.before.args in
     let f = form (variable a.signed) (value_of a.w) in
-    wrote-long f a.out.now _ _ c.before.before.before.before.before.before.size-at.result (value_of a.w) (long c.before.before.before.before.before.before c.before.before.before.before.first_of.result c.before.before.before.before.first_of.ensures)
+    wrote_long f a.out.now _ _ c.before.before.before.before.before.before.size-at.result (value_of a.w) (long c.before.before.before.before.before.before c.before.before.before.before.first_of.result c.before.before.before.before.first_of.ensures)
     c.before.before.before.before.before.if3.false c.before.before.write-body.ensures
 
 pub write_spec : {M : Type 1} → statement M

@@ -1,6 +1,6 @@
 -- `walker::steps::genuine` meets its contract. Assumes nothing.
 use borrow.Author.Rules.{rules}
-use Rattle.walker.proofs.Standings.{few-rows, row_out, bound-low, bound-high, end_low, end-decides}
+use Rattle.walker.proofs.Standings.{few-rows, row_out, bound_low, bound_high, end_low, end_decides}
 use Rattle.walker.proofs.steps.genuine.Statement.{statement}
 use Rattle.walker.proofs.steps.genuine.Tie as tie
 
@@ -11,16 +11,16 @@ returns-2 : tie.Need-returns-2
 returns-2 c = search row_out
 
 returns-3 : tie.Need-returns-3
-returns-3 c = search bound-low
+returns-3 c = search bound_low
 
 returns-4 : tie.Need-returns-4
-returns-4 c = search bound-high
+returns-4 c = search bound_high
 
 returns-5 : tie.Need-returns-5
 returns-5 c = search end_low
 
 returns-6 : tie.Need-returns-6
-returns-6 c = search end-decides
+returns-6 c = search end_decides
 
 pub genuine-spec : {M : Type 1} → statement M
 genuine-spec =

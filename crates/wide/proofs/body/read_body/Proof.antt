@@ -8,7 +8,7 @@ use borrow.Author.Rules.{rules}
 use Rattle.wide.proofs.Numbers.{onto}
 use Rattle.wide.specs.Words.{wide_of}
 use Rattle.wide.specs.Body.{extended}
-use Rattle.wide.proofs.Bodies.{turn, body_end, body-read}
+use Rattle.wide.proofs.Bodies.{turn, body_end, body_read}
 use Rattle.wide.proofs.body.read_body.Statement.{statement}
 use Rattle.wide.proofs.body.read_body.Tie as tie
 
@@ -50,7 +50,7 @@ returns c =
     let z : l.i ≡ 0 = search rules in
     l.invariant.1
     ∙ ap (λ (k : ℕ). wide_of (onto (extended (a.signed && leb 128 (get_or s (a.at + (a.size - 1)) 0)) 0 0) (drop k (take a.size (drop a.at s))))) z
-    ∙ body-read s a.at a.size p.0 p.1 p.2 a.signed (λ i. (c.before.before.before.before.before.shared-slice-known.given i).fits)
+    ∙ body_read s a.at a.size p.0 p.1 p.2 a.signed (λ i. (c.before.before.before.before.before.shared-slice-known.given i).fits)
 
 pub read-body-spec : {M : Type 1} → statement M
 read-body-spec =

@@ -7,7 +7,7 @@ use lib.Seq.{sets}
 use Rattle.wide.specs.Number.{bytes_of}
 use Rattle.wide.specs.Words.{value_of}
 use Rattle.wide.proofs.Wides.{Words}
-use Rattle.wide.proofs.Bodies.{write-start, write-turn, write-end, words-off}
+use Rattle.wide.proofs.Bodies.{write_start, write_turn, write_end, words_off}
 use Rattle.wide.proofs.body.write_body.Statement.{statement}
 use Rattle.wide.proofs.body.write_body.Tie as tie
 
@@ -21,7 +21,7 @@ decreases-loop out₀ at size rest₀ i₀ out rest i = size - i
 loop-holds : tie.Need-loop-init invariant-loop decreases-loop
 loop-holds c =
     let a = c.before.args in
-    (search rules, search rules, search rules, write-start a.out.now a.at a.size (value_of a.w))
+    (search rules, search rules, search rules, write_start a.out.now a.at a.size (value_of a.w))
 
 loop-again : tie.Need-loop-preserved invariant-loop decreases-loop
 loop-again c =
@@ -30,8 +30,8 @@ loop-again c =
     let p = c.before.before.before.put_word in (
       search rules,
       p.auto.0 ∙ l.invariant.1,
-      subst Words (sym c.word-off.ensures) (words-off l.rest l.invariant.2),
-      write-turn l.out p.new.0 _ a.at l.i a.size l.rest c.word-off.result (search rules) l.invariant.2 p.ensures c.word-off.ensures l.invariant.3,
+      subst Words (sym c.word-off.ensures) (words_off l.rest l.invariant.2),
+      write_turn l.out p.new.0 _ a.at l.i a.size l.rest c.word-off.result (search rules) l.invariant.2 p.ensures c.word-off.ensures l.invariant.3,
     )
 
 returns : tie.Need-returns invariant-loop decreases-loop
@@ -39,7 +39,7 @@ returns c =
     let a = c.before.before.before.before.before.before.before.args in
     let l = c.before.before.before.before.before.loop in
     let p = c.before.before.put-word2 in
-    write-end l.out p.new.0 _ a.at l.i a.size l.rest (search rules) p.ensures l.invariant.3
+    write_end l.out p.new.0 _ a.at l.i a.size l.rest (search rules) p.ensures l.invariant.3
 
 pub write-body-spec : {M : Type 1} → statement M
 write-body-spec =

@@ -5,7 +5,7 @@ use borrow.Author.Rules.{rules}
 use Rattle.wide.specs.Words.{value_of}
 use Rattle.wide.specs.Body.{rank}
 use Rattle.wide.proofs.Wides.{Words}
-use Rattle.wide.proofs.Ranking.{rank-folded}
+use Rattle.wide.proofs.Ranking.{rank_folded}
 use Rattle.wide.proofs.size.rank_of.Statement.{statement}
 use Rattle.wide.proofs.size.rank_of.Tie as tie
 
@@ -13,7 +13,7 @@ returns : tie.Need-returns
 returns c =
     let a = c.before.before.before.before.args in
     let h : Words a.w = search rules in
-    rank-folded a.w h c.before.before.folded.result c.before.doubled.result c.rank-unsigned.result
+    rank_folded a.w h c.before.before.folded.result c.before.doubled.result c.rank-unsigned.result
     c.before.before.folded.ensures c.before.doubled.ensures c.rank-unsigned.ensures
     ∙ ap (λ (b : Bool). rank b (value_of a.w)) (sym c.before.before.before.if1.true)
 

@@ -1,13 +1,13 @@
 -- `wide::step::filled` meets its contract. Assumes nothing.
 use mathlib.Core.Path.{◌≡◌, ◌∙◌, ap, sym, refl}
 use mathlib.Core.Bool.{Bool, true}
-use Rattle.wide.specs.Words.{wideEnd, words, wide_of}
+use Rattle.wide.specs.Words.{wide_end, words, wide_of}
 use Rattle.wide.specs.Body.{extended}
 use Rattle.wide.proofs.step.filled.Statement.{statement}
 use Rattle.wide.proofs.step.filled.Tie as tie
 
 ones : words 4294967295 4294967295 4294967295 4294967295 ≡ wide_of (extended true 0 0)
-unfolding wideEnd wide_of
+unfolding wide_end wide_of
 ones = refl
 
 zeros : words 0 0 0 0 ≡ wide_of 0

@@ -6,26 +6,26 @@ use native.Mathlib.Omega.{arith}
 use borrow.Fn.Kinds.{In}
 use borrow.Fn.PlainCycle.{Measures, is, falls, and}
 use borrow.Author.Rules.{rules}
-use Rattle.rows.specs.Table.{rowAt}
-use Rattle.writer.proofs.Counting.{row-held, row-few, end_is, leaf-long, child-spelt, row-long, row-short, Counted, counted_start, here-held, here-up, here-low, here-spelt, counted-turn, counted-short, counted-end}
+use Rattle.rows.specs.Table.{row_at}
+use Rattle.writer.proofs.Counting.{row_held, row-few, end_is, leaf-long, child-spelt, row-long, row-short, Counted, counted_start, here_held, here_up, here-low, here-spelt, counted_turn, counted_short, counted_end}
 use Rattle.writer.proofs.sizes.size_children.Reads as size-children
 use Rattle.writer.proofs.sizes.size_children.Kinds as size-children-kinds
-use Rattle.writer.proofs.sizes.+size_children_size_row.Lts-size_children as size-children-lts
+use Rattle.writer.proofs.sizes.+sizing.Lts-size_children as size-children-lts
 use Rattle.writer.proofs.sizes.size_row.Reads as size-row
 use Rattle.writer.proofs.sizes.size_row.Kinds as size-row-kinds
-use Rattle.writer.proofs.sizes.+size_children_size_row.Lts-size_row as size-row-lts
+use Rattle.writer.proofs.sizes.+sizing.Lts-size_row as size-row-lts
 use Rattle.rows.proofs.end_at.Reads as end-at-reads
 use Rattle.rows.proofs.number.Reads as number-reads
 use Rattle.rows.proofs.row_at.Reads as row-at-reads
 use Rattle.spell.proofs.row_size.Reads as row-size-reads
-use Rattle.writer.proofs.sizes.+size_children_size_row.{statement}
-use Rattle.writer.proofs.sizes.+size_children_size_row.Tie.{close}
+use Rattle.writer.proofs.sizes.+sizing.{statement}
+use Rattle.writer.proofs.sizes.+sizing.Tie.{close}
 
 abbrev μ-size-children : Measures 1 size-children-kinds.ps ℕ
 μ-size-children κs a = 2 * (a.1.1.0 - a.1.0) + 1
 
 abbrev μ-size-row : Measures 1 size-row-kinds.ps ℕ
-μ-size-row κs a = 2 * ((rowAt a.0.now a.1.0).end - a.1.0)
+μ-size-row κs a = 2 * ((row_at a.0.now a.1.0).end - a.1.0)
 
 abbrev size-children-at : ℕ → In 1 size-children-kinds.ps
 size-children-at t = and 1 size-children-kinds.ps (is 1 size-children-kinds.ps μ-size-children t) size-children.Pre
@@ -59,13 +59,13 @@ pub +size-children-size-row-spec : {M : Type 1} → statement M
     size-children-Inv-loop
     size-children-μ-loop
     (λ c. search counted_start)
-    (λ c κs. let s = c.before.before.before in let l = c.before.loop in (omega (arith, s.requires.0, l.invariant.from, here-up s.args.table.now s.args.row s.args.stop s.requires.1 l.here l.sum l.invariant c.loop-test.true, here-low s.args.table.now s.args.row s.args.stop s.requires.1 l.here l.sum l.invariant c.loop-test.true), (here-spelt s.args.table.now s.args.row s.args.stop s.requires.1 l.here l.sum l.invariant c.loop-test.true, here-up s.args.table.now s.args.row s.args.stop s.requires.1 l.here l.sum l.invariant c.loop-test.true)))
-    (λ c. let s = c.before.before.before.before in let l = c.before.before.loop in omega (arith, counted-short s.args.table.now s.args.row s.args.stop s.requires.1 l.here l.sum l.invariant c.before.loop-test.true c.size-row.result c.size-row.ensures (λ i. (c.before.before.before.shared-slice-known.given i).fits)))
-    (λ c κs. search here-held)
+    (λ c κs. let s = c.before.before.before in let l = c.before.loop in (omega (arith, s.requires.0, l.invariant.from, here_up s.args.table.now s.args.row s.args.stop s.requires.1 l.here l.sum l.invariant c.loop-test.true, here-low s.args.table.now s.args.row s.args.stop s.requires.1 l.here l.sum l.invariant c.loop-test.true), (here-spelt s.args.table.now s.args.row s.args.stop s.requires.1 l.here l.sum l.invariant c.loop-test.true, here_up s.args.table.now s.args.row s.args.stop s.requires.1 l.here l.sum l.invariant c.loop-test.true)))
+    (λ c. let s = c.before.before.before.before in let l = c.before.before.loop in omega (arith, counted_short s.args.table.now s.args.row s.args.stop s.requires.1 l.here l.sum l.invariant c.before.loop-test.true c.size-row.result c.size-row.ensures (λ i. (c.before.before.before.shared-slice-known.given i).fits)))
+    (λ c κs. search here_held)
     (λ c κs. search rules)
-    (λ c. let s = c.before.before.before.before.before.before in let l = c.before.before.before.before.loop in omega (arith, c.number.ensures.0, c.before.end-at.ensures, c.before.before.before.loop-test.true, here-up s.args.table.now s.args.row s.args.stop s.requires.1 l.here l.sum l.invariant c.before.before.before.loop-test.true))
-    (λ c. let s = c.before.before.before.before.before.before in let l = c.before.before.before.before.loop in counted-turn s.args.table.now s.args.row s.args.stop s.requires.1 l.here l.sum l.invariant c.before.before.before.loop-test.true c.before.before.size-row.result c.before.before.size-row.ensures c.number.result (c.number.ensures.0 ∙ c.before.end-at.ensures))
-    (λ c. search counted-end))
+    (λ c. let s = c.before.before.before.before.before.before in let l = c.before.before.before.before.loop in omega (arith, c.number.ensures.0, c.before.end-at.ensures, c.before.before.before.loop-test.true, here_up s.args.table.now s.args.row s.args.stop s.requires.1 l.here l.sum l.invariant c.before.before.before.loop-test.true))
+    (λ c. let s = c.before.before.before.before.before.before in let l = c.before.before.before.before.loop in counted_turn s.args.table.now s.args.row s.args.stop s.requires.1 l.here l.sum l.invariant c.before.before.before.loop-test.true c.before.before.size-row.result c.before.before.size-row.ensures c.number.result (c.number.ensures.0 ∙ c.before.end-at.ensures))
+    (λ c. search counted_end))
     λ t. size-row-lts.spec (
       row-at-reads.Asked,
       row-at-reads.Learnt,
@@ -78,7 +78,7 @@ pub +size-children-size-row-spec : {M : Type 1} → statement M
     )
     (size-row-at t)
     size-row.Post
-    (λ c κs. search row-held)
+    (λ c κs. search row_held)
     (λ c κs. search rules)
     (λ c. let s = c.before.before.before in omega (arith, row-few s.args.table.now s.args.row s.requires.1.0 s.requires.1.1))
     (λ c κs. search rules)

@@ -3,28 +3,28 @@
 use Prim.Native.Nat.{ℕ, ◌+◌, ◌*◌, ◌-◌, ◌<◌}
 use borrow.Author.Rules.{rules}
 use Rattle.format.specs.Value.{value}
-use Rattle.format.proofs.Heads.{declare-within, hold-few, hold-within}
-use Rattle.measure.proofs.Measures.{Kept, all_fit, child-key, child-value, children-low, children-stop, declare-few, declare-low, declare-pos, declare-right, declare-wrong, entry-wrong, foreign-inside, foreign-pos, frame-few, frame_right, frame-wrong, hold-pos, hold-right, hold-wrong, holder-few, kept-all, kept-few, kept-first, kept-fits, kept_low, kept_next, kept-one, kept-plus, kept-wrong, leaf-low, refer-low, refuse-low, row_fits, rows_fit, value-declare, value-deep, value-foreign, value-hold, value-leaf, value-no-entry, value-refer, value-refuse}
+use Rattle.format.proofs.Heads.{declare_within, hold-few, hold_within}
+use Rattle.measure.proofs.Measures.{Kept, all_fit, child_key, child-value, children-low, children_stop, declare-few, declare-low, declare_pos, declare-right, declare-wrong, entry-wrong, foreign-inside, foreign_pos, frame_few, frame_right, frame_wrong, hold_pos, hold-right, hold-wrong, holder_few, kept-all, kept-few, kept-first, kept-fits, kept_low, kept_next, kept-one, kept_plus, kept-wrong, leaf-low, refer-low, refuse_low, row_fits, rows_fit, value-declare, value_deep, value-foreign, value-hold, value-leaf, value_no_entry, value-refer, value_refuse}
 use borrow.Fn.Kinds.{In}
 use borrow.Fn.PlainCycle.{Measures, is, falls, and}
 use Rattle.measure.proofs.value.measure_child.Reads as measure-child
 use Rattle.measure.proofs.value.measure_child.Kinds as measure-child-kinds
-use Rattle.measure.proofs.value.+measure_child_measure_children_measure_declared_measure_framed_measure_hold_measure_value.Lts-measure_child as measure-child-lts
+use Rattle.measure.proofs.value.+measuring.Lts-measure_child as measure-child-lts
 use Rattle.measure.proofs.value.measure_children.Reads as measure-children
 use Rattle.measure.proofs.value.measure_children.Kinds as measure-children-kinds
-use Rattle.measure.proofs.value.+measure_child_measure_children_measure_declared_measure_framed_measure_hold_measure_value.Lts-measure_children as measure-children-lts
+use Rattle.measure.proofs.value.+measuring.Lts-measure_children as measure-children-lts
 use Rattle.measure.proofs.value.measure_declared.Reads as measure-declared
 use Rattle.measure.proofs.value.measure_declared.Kinds as measure-declared-kinds
-use Rattle.measure.proofs.value.+measure_child_measure_children_measure_declared_measure_framed_measure_hold_measure_value.Lts-measure_declared as measure-declared-lts
+use Rattle.measure.proofs.value.+measuring.Lts-measure_declared as measure-declared-lts
 use Rattle.measure.proofs.value.measure_framed.Reads as measure-framed
 use Rattle.measure.proofs.value.measure_framed.Kinds as measure-framed-kinds
-use Rattle.measure.proofs.value.+measure_child_measure_children_measure_declared_measure_framed_measure_hold_measure_value.Lts-measure_framed as measure-framed-lts
+use Rattle.measure.proofs.value.+measuring.Lts-measure_framed as measure-framed-lts
 use Rattle.measure.proofs.value.measure_hold.Reads as measure-hold
 use Rattle.measure.proofs.value.measure_hold.Kinds as measure-hold-kinds
-use Rattle.measure.proofs.value.+measure_child_measure_children_measure_declared_measure_framed_measure_hold_measure_value.Lts-measure_hold as measure-hold-lts
+use Rattle.measure.proofs.value.+measuring.Lts-measure_hold as measure-hold-lts
 use Rattle.measure.proofs.value.measure_value.Reads as measure-value
 use Rattle.measure.proofs.value.measure_value.Kinds as measure-value-kinds
-use Rattle.measure.proofs.value.+measure_child_measure_children_measure_declared_measure_framed_measure_hold_measure_value.Lts-measure_value as measure-value-lts
+use Rattle.measure.proofs.value.+measuring.Lts-measure_value as measure-value-lts
 use Rattle.format.proofs.in_foreign.Reads as in-foreign-reads
 use Rattle.format.proofs.head.Children.in_force.Reads as in-force-reads
 use Rattle.format.proofs.head.Children.is_key.Reads as is-key-reads
@@ -40,10 +40,10 @@ use Rattle.measure.proofs.told.place_in.Reads as place-in-reads
 use Rattle.measure.proofs.told.right.Reads as right-reads
 use Rattle.measure.proofs.told.row_in.Reads as row-in-reads
 use Rattle.measure.proofs.told.wrong.Reads as wrong-reads
-use Rattle.measure.proofs.value.+measure_child_measure_children_measure_declared_measure_framed_measure_hold_measure_value.{
+use Rattle.measure.proofs.value.+measuring.{
   statement,
 }
-use Rattle.measure.proofs.value.+measure_child_measure_children_measure_declared_measure_framed_measure_hold_measure_value.Tie.{
+use Rattle.measure.proofs.value.+measuring.Tie.{
   close,
 }
 
@@ -181,7 +181,7 @@ pub +measure-child-measure-children-measure-declared-measure-framed-measure-hold
     measure-child.Post
     (λ c κs. search rules)
     (λ c κs. search rules)
-    (λ c. search child-key)
+    (λ c. search child_key)
     (λ c κs. search rules)
     (λ c κs. search rules)
     (λ c. search child-value))
@@ -217,7 +217,7 @@ pub +measure-child-measure-children-measure-declared-measure-framed-measure-hold
     (λ c. search rules)
     (λ c. search rules)
     (λ c. search kept_next)
-    (λ c. search kept-plus)
+    (λ c. search kept_plus)
     (λ c. search rules)
     (λ c. search rules)
     (λ c. search kept-one)
@@ -244,7 +244,7 @@ pub +measure-child-measure-children-measure-declared-measure-framed-measure-hold
     (λ c κs. search rules)
     (λ c. search entry-wrong)
     (λ c κs. search rules)
-    (λ c κs. search (rules, children-stop))
+    (λ c κs. search (rules, children_stop))
     (λ c. search declare-wrong)
     (λ c κs. search rules)
     (λ c κs. search rules)
@@ -277,11 +277,11 @@ pub +measure-child-measure-children-measure-declared-measure-framed-measure-hold
     (λ c κs. search rules)
     (λ c κs. search rules)
     (λ c κs. search rules)
-    (λ c. search frame-wrong)
+    (λ c. search frame_wrong)
     (λ c κs. search rules)
     (λ c. row_fits _ c.row-in.result c.row-in.ensures)
     (λ c κs. search rules)
-    (λ c κs. search (rules, frame-few))
+    (λ c κs. search (rules, frame_few))
     (λ c. search frame_right))
     (λ t. measure-hold-lts.spec (
       children-reads.Asked,
@@ -309,7 +309,7 @@ pub +measure-child-measure-children-measure-declared-measure-framed-measure-hold
     (λ c. row_fits _ c.row-in.result c.row-in.ensures)
     (λ c κs. search rules)
     (λ c κs. search rules)
-    (λ c κs. search (rules, children-low, holder-few))
+    (λ c κs. search (rules, children-low, holder_few))
     (λ c. search hold-right))
     λ t. measure-value-lts.spec (
       wrong-reads.Asked,
@@ -328,7 +328,7 @@ pub +measure-child-measure-children-measure-declared-measure-framed-measure-hold
     (measure-value-at t)
     measure-value.Post
     (λ c κs. search rules)
-    (λ c. search value-deep)
+    (λ c. search value_deep)
     (λ c κs. search rules)
     (λ c. search rules)
     (λ c κs. search (rules, leaf-low))
@@ -337,19 +337,19 @@ pub +measure-child-measure-children-measure-declared-measure-framed-measure-hold
     (λ c. search value-refer)
     (λ c κs. search rules)
     (λ c. search rules)
-    (λ c κs. search (rules, refuse-low))
+    (λ c κs. search (rules, refuse_low))
     (λ c. search rules)
     (λ c. search rules)
-    (λ c κs. search (rules, hold-pos, hold-within, hold-few))
+    (λ c κs. search (rules, hold_pos, hold_within, hold-few))
     (λ c. search rules)
     (λ c. search rules)
-    (λ c κs. search (rules, declare-pos, declare-within))
+    (λ c κs. search (rules, declare_pos, declare_within))
     (λ c. search rules)
     (λ c. search rules)
-    (λ c κs. search (rules, foreign-pos, foreign-inside))
+    (λ c κs. search (rules, foreign_pos, foreign-inside))
     (λ c. search value-leaf)
-    (λ c. search value-no-entry)
-    (λ c. search value-refuse)
+    (λ c. search value_no_entry)
+    (λ c. search value_refuse)
     (λ c. search value-hold)
     (λ c. search value-declare)
     (λ c. search value-foreign)

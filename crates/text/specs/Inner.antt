@@ -3,28 +3,28 @@
 use Rattle.std.specs.Prelude.{ℕ, zero, suc, ◌+◌, ◌*◌, ◌≤◌, ◌<◌, true, cond, List, [], ◌∷◌, ◌≡◌, length, get_or}
 use Rattle.text.specs.declared.lead.Lead.{Lead}
 use Rattle.text.specs.declared.lead.Lead.TheVariants.{Starts, Never}
-use Rattle.text.specs.Syntax.{Range, ◌to◌, Line, UTF8-tail, plain_byte, UTF8-char}
+use Rattle.text.specs.Syntax.{Range, ◌to◌, Line, UTF8_tail, plain_byte, UTF8-char}
 use Rattle.text.specs.Check.{in_range}
 
 -- the first of these lines that may begin with b, [] where none may
-abbrev pub lineIn : List Line → ℕ → Line
-lineIn [] b = []
-lineIn ([] ∷ ls) b = lineIn ls b
-lineIn ((r ∷ l) ∷ ls) b = cond (in_range r b) (r ∷ l) (lineIn ls b)
+abbrev pub line_in : List Line → ℕ → Line
+line_in [] b = []
+line_in ([] ∷ ls) b = line_in ls b
+line_in ((r ∷ l) ∷ ls) b = cond (in_range r b) (r ∷ l) (line_in ls b)
 
 -- n bytes follow the first, the next of them in this range
-abbrev pub goesOn : ℕ → Range → Lead
-goesOn n (low to high) = Starts n low high
+abbrev pub goes_on : ℕ → Range → Lead
+goes_on n (low to high) = Starts n low high
 
 -- what a line says behind its first range; where nothing follows, no range is asked, and a tail's is named
 abbrev pub leads : Line → Lead
 leads [] = Never
-leads (r ∷ []) = goesOn 0 UTF8-tail
-leads (r ∷ next ∷ l) = goesOn (length (next ∷ l)) next
+leads (r ∷ []) = goes_on 0 UTF8_tail
+leads (r ∷ next ∷ l) = goes_on (length (next ∷ l)) next
 
 -- what b, as the first byte of a sequence, says of the others
-unfoldable pub leadOf : ℕ → Lead
-leadOf b = leads (lineIn UTF8-char b)
+unfoldable pub lead_of : ℕ → Lead
+lead_of b = leads (line_in UTF8-char b)
 
 -- the bytes from `from` to before `end` are plain
 pub record PlainTo (s : List ℕ) (from end : ℕ) : Type 0 where

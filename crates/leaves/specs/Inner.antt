@@ -1,15 +1,15 @@
 -- Words of the contracts inside: what the row of a leaf asks of the leaf's content, where a leaf or a key ends, and what laying a leaf does. Definitions only.
 use Rattle.std.specs.Prelude.{◌≡◌, cond, List, ℕ, ◌+◌, ◌-◌, ◌*◌, ◌≤◌, length, leb}
 use Rattle.std.proofs.lemmas.List.Edits.{sets}
-use Rattle.rows.specs.Table.{wordsPerRow, words_of, limit}
-use Rattle.rows.specs.Kinds.{leafRow}
+use Rattle.rows.specs.Table.{words_per_row, words_of, limit}
+use Rattle.rows.specs.Kinds.{leaf_row}
 use Rattle.format.specs.declared.head.Spelling.{Spelling}
 use Rattle.format.specs.declared.head.Spelling.TheVariants.{At}
 use Rattle.format.specs.declared.head.Content.{Content}
 use Rattle.format.specs.declared.head.Content.TheVariants.{Constant, Small, Integer, Span, Char}
 use Rattle.format.specs.declared.head.Head.{Head}
 use Rattle.format.specs.declared.head.Head.TheVariants.{Leaf, Hold, Refer, Declare, Foreign, Refuse}
-use Rattle.format.specs.Value.{leafOwn}
+use Rattle.format.specs.Value.{leaf_own}
 
 -- "bodies of 1, 2, 3, 4, 6, 8, 12, 16 bytes": the body lies in the bytes s
 pub record BodyInside (s : List ℕ) (place size : ℕ) : Type 0 where
@@ -66,7 +66,7 @@ pub record KeyAsked (x : Spelling) (r : ℕ) : Type 0 where
 pub record LeafLaid (h : Head) (s table : List ℕ) (row : ℕ) (table' : List ℕ) (next : ℕ) : Type 0 where
   pub content : Content
   pub is : h ≡ Leaf content next
-  pub put : table' ≡ sets table (wordsPerRow * row) (words_of (leafRow (leafOwn s content) row))
+  pub put : table' ≡ sets table (words_per_row * row) (words_of (leaf_row (leaf_own s content) row))
 
 -- r is 0 and nothing is laid, or r is where the leaf ends
 pub record LeafTried (h : Head) (s table : List ℕ) (row : ℕ) (table' : List ℕ) (r : ℕ) : Type 0 where

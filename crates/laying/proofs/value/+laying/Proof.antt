@@ -2,7 +2,7 @@
 -- A law of Lays, Steps or Children answers each way out. Assumes nothing.
 use Prim.Native.Nat.{ℕ, ◌+◌, ◌*◌, ◌-◌, ◌<◌}
 use borrow.Author.Rules.{rules}
-use Rattle.format.proofs.Heads.{hold-few, hold-within, declare-few, declare-within}
+use Rattle.format.proofs.Heads.{hold-few, hold_within, declare-few, declare_within}
 use Rattle.laying.proofs.Children.{Laying}
 use Rattle.laying.proofs.Children as children
 use Rattle.laying.proofs.Lays as lays
@@ -11,25 +11,25 @@ use borrow.Fn.Kinds.{In}
 use borrow.Fn.PlainCycle.{Measures, is, falls, and}
 use Rattle.laying.proofs.value.lay_at.Reads as Lay-at
 use Rattle.laying.proofs.value.lay_at.Kinds as lay-at-kinds
-use Rattle.laying.proofs.value.+lay_at_lay_children_lay_declared_lay_foreign_lay_hold_lay_right_lay_value.Lts-lay_at as lay-at-lts
+use Rattle.laying.proofs.value.+laying.Lts-lay_at as lay-at-lts
 use Rattle.laying.proofs.value.lay_children.Reads as lay-children
 use Rattle.laying.proofs.value.lay_children.Kinds as lay-children-kinds
-use Rattle.laying.proofs.value.+lay_at_lay_children_lay_declared_lay_foreign_lay_hold_lay_right_lay_value.Lts-lay_children as lay-children-lts
+use Rattle.laying.proofs.value.+laying.Lts-lay_children as lay-children-lts
 use Rattle.laying.proofs.value.lay_declared.Reads as lay-declared
 use Rattle.laying.proofs.value.lay_declared.Kinds as lay-declared-kinds
-use Rattle.laying.proofs.value.+lay_at_lay_children_lay_declared_lay_foreign_lay_hold_lay_right_lay_value.Lts-lay_declared as lay-declared-lts
-use Rattle.laying.proofs.value.lay_foreign.Reads as lay-foreign
+use Rattle.laying.proofs.value.+laying.Lts-lay_declared as lay-declared-lts
+use Rattle.laying.proofs.value.lay_foreign.Reads as lay_foreign
 use Rattle.laying.proofs.value.lay_foreign.Kinds as lay-foreign-kinds
-use Rattle.laying.proofs.value.+lay_at_lay_children_lay_declared_lay_foreign_lay_hold_lay_right_lay_value.Lts-lay_foreign as lay-foreign-lts
-use Rattle.laying.proofs.value.lay_hold.Reads as lay-hold
+use Rattle.laying.proofs.value.+laying.Lts-lay_foreign as lay-foreign-lts
+use Rattle.laying.proofs.value.lay_hold.Reads as lay_hold
 use Rattle.laying.proofs.value.lay_hold.Kinds as lay-hold-kinds
-use Rattle.laying.proofs.value.+lay_at_lay_children_lay_declared_lay_foreign_lay_hold_lay_right_lay_value.Lts-lay_hold as lay-hold-lts
+use Rattle.laying.proofs.value.+laying.Lts-lay_hold as lay-hold-lts
 use Rattle.laying.proofs.value.lay_right.Reads as lay-right
 use Rattle.laying.proofs.value.lay_right.Kinds as lay-right-kinds
-use Rattle.laying.proofs.value.+lay_at_lay_children_lay_declared_lay_foreign_lay_hold_lay_right_lay_value.Lts-lay_right as lay-right-lts
+use Rattle.laying.proofs.value.+laying.Lts-lay_right as lay-right-lts
 use Rattle.laying.proofs.value.lay_value.Reads as lay-value
 use Rattle.laying.proofs.value.lay_value.Kinds as lay-value-kinds
-use Rattle.laying.proofs.value.+lay_at_lay_children_lay_declared_lay_foreign_lay_hold_lay_right_lay_value.Lts-lay_value as lay-value-lts
+use Rattle.laying.proofs.value.+laying.Lts-lay_value as lay-value-lts
 use Rattle.format.proofs.in_foreign.Reads as in-foreign-reads
 use Rattle.format.proofs.head.Children.in_force.Reads as in-force-reads
 use Rattle.format.proofs.head.Holder.children.Reads as children-reads
@@ -52,10 +52,10 @@ use Rattle.rows.proofs.lay.Reads as lay-reads
 use Rattle.rows.proofs.row.Row.declaration.Reads as declaration-reads
 use Rattle.rows.proofs.row.Row.foreign.Reads as foreign-reads
 use Rattle.rows.proofs.row.Row.holder.Reads as holder-reads
-use Rattle.laying.proofs.value.+lay_at_lay_children_lay_declared_lay_foreign_lay_hold_lay_right_lay_value.{
+use Rattle.laying.proofs.value.+laying.{
   statement,
 }
-use Rattle.laying.proofs.value.+lay_at_lay_children_lay_declared_lay_foreign_lay_hold_lay_right_lay_value.Tie.{
+use Rattle.laying.proofs.value.+laying.Tie.{
   close,
 }
 
@@ -112,18 +112,18 @@ lay-declared-below t =
 
 abbrev lay-foreign-at : ℕ → In 2 lay-foreign-kinds.ps
 lay-foreign-at t =
-    and 2 lay-foreign-kinds.ps (is 2 lay-foreign-kinds.ps μ-lay-foreign t) lay-foreign.Pre
+    and 2 lay-foreign-kinds.ps (is 2 lay-foreign-kinds.ps μ-lay-foreign t) lay_foreign.Pre
 
 abbrev lay-foreign-below : ℕ → In 2 lay-foreign-kinds.ps
 lay-foreign-below t =
-    and 2 lay-foreign-kinds.ps (falls 2 lay-foreign-kinds.ps ◌<◌ μ-lay-foreign t) lay-foreign.Pre
+    and 2 lay-foreign-kinds.ps (falls 2 lay-foreign-kinds.ps ◌<◌ μ-lay-foreign t) lay_foreign.Pre
 
 abbrev lay-hold-at : ℕ → In 2 lay-hold-kinds.ps
-lay-hold-at t = and 2 lay-hold-kinds.ps (is 2 lay-hold-kinds.ps μ-lay-hold t) lay-hold.Pre
+lay-hold-at t = and 2 lay-hold-kinds.ps (is 2 lay-hold-kinds.ps μ-lay-hold t) lay_hold.Pre
 
 abbrev lay-hold-below : ℕ → In 2 lay-hold-kinds.ps
 lay-hold-below t =
-    and 2 lay-hold-kinds.ps (falls 2 lay-hold-kinds.ps ◌<◌ μ-lay-hold t) lay-hold.Pre
+    and 2 lay-hold-kinds.ps (falls 2 lay-hold-kinds.ps ◌<◌ μ-lay-hold t) lay_hold.Pre
 
 abbrev lay-right-at : ℕ → In 2 lay-right-kinds.ps
 lay-right-at t = and 2 lay-right-kinds.ps (is 2 lay-right-kinds.ps μ-lay-right t) lay-right.Pre
@@ -166,40 +166,40 @@ pub +lay-at-lay-children-lay-declared-lay-foreign-lay-hold-lay-right-lay-value-s
       lay-reference-reads.Asked,
       lay-reference-reads.Learnt,
       lay-hold-below t,
-      lay-hold.Post,
+      lay_hold.Post,
       lay-declared-below t,
       lay-declared.Post,
       lay-foreign-below t,
-      lay-foreign.Post,
+      lay_foreign.Post,
     )
     (lay-at-at t)
     Lay-at.Post
     (λ c κs. search rules)
     (λ c. search rules)
-    (λ c κs. (search rules, (search lays.head-is, search rules, search rules)))
+    (λ c κs. (search rules, (search lays.head_is, search rules, search rules)))
     (λ c. search rules)
-    (λ c κs. (search rules, (search lays.head-is, search rules, search rules)))
-    (λ c. search rules)
-    (λ c. search rules)
-    (λ c κs. (search rules, (search lays.hold-ready, (search hold-within, search rules, search rules, search hold-few))))
+    (λ c κs. (search rules, (search lays.head_is, search rules, search rules)))
     (λ c. search rules)
     (λ c. search rules)
-    (λ c κs. (search rules, (search lays.declare-ready, (search declare-within, search rules, search rules, search declare-few))))
+    (λ c κs. (search rules, (search lays.hold_ready, (search hold_within, search rules, search rules, search hold-few))))
     (λ c. search rules)
     (λ c. search rules)
-    (λ c κs. (search rules, (search lays.foreign-ready, (search lays.foreign-inside, search rules))))
+    (λ c κs. (search rules, (search lays.declare_ready, (search declare_within, search rules, search rules, search declare-few))))
     (λ c. search rules)
     (λ c. search rules)
+    (λ c κs. (search rules, (search lays.foreign_ready, (search lays.foreign-inside, search rules))))
     (λ c. search rules)
     (λ c. search rules)
     (λ c. search rules)
     (λ c. search rules)
-    (λ c. search lays.hold-done)
     (λ c. search rules)
-    (λ c. search lays.declare-done)
     (λ c. search rules)
-    (λ c. search lays.foreign-done)
-    (λ c. search lays.refuse-never))
+    (λ c. search lays.hold_done)
+    (λ c. search rules)
+    (λ c. search lays.declare_done)
+    (λ c. search rules)
+    (λ c. search lays.foreign_done)
+    (λ c. search lays.refuse_never))
     (λ t. lay-children-lts.spec (
       lay-one-reads.Asked,
       lay-one-reads.Learnt,
@@ -218,22 +218,22 @@ pub +lay-at-lay-children-lay-declared-lay-foreign-lay-hold-lay-right-lay-value-s
     lay-children.Post
     lay-children-Inv-loop
     lay-children-μ-loop
-    (λ c. search children.laying-start)
-    (λ c κs. (search children.laying-ready, search rules))
+    (λ c. search children.laying_start)
+    (λ c κs. (search children.laying_ready, search rules))
     (λ c κs. search rules)
-    (λ c κs. (search rules, (lays.laying-value _ _ _ _ _ _ _ _ _ _ _ _ _ _ _ c.before.before.before.before.before.before.before.before.loop.invariant c.before.before.before.before.before.before.before.loop-test.true _ _ c.before.before.before.before.before.lay-one.ensures c.before.before.if1.true _ c.before.in-force.ensures, (search lays.laying-left, search rules, search rules))))
+    (λ c κs. (search rules, (lays.laying_value _ _ _ _ _ _ _ _ _ _ _ _ _ _ _ c.before.before.before.before.before.before.before.before.loop.invariant c.before.before.before.before.before.before.before.loop-test.true _ _ c.before.before.before.before.before.lay-one.ensures c.before.before.if1.true _ c.before.in-force.ensures, (search lays.laying_left, search rules, search rules))))
     (λ c κs. search rules)
     (λ c κs. search rules)
     (λ c. search rules)
     (λ c. search rules)
-    (λ c. lays.laying-head _ _ _ _ _ _ _ _ _ _ _ _ _ _ _ c.before.before.before.before.before.before.before.before.before.before.before.before.before.loop.invariant c.before.before.before.before.before.before.before.before.before.before.before.before.loop-test.true _ _ c.before.before.before.before.before.before.before.before.before.before.lay-one.ensures c.before.before.before.before.before.before.before.if1.true _ c.before.before.before.before.before.before.in-force.ensures _ _ c.before.before.before.before.Lay-at.ensures _ _ c.before.place-in.ensures c.row-in.ensures)
-    (λ c. search lays.laying-fits)
+    (λ c. lays.laying_head _ _ _ _ _ _ _ _ _ _ _ _ _ _ _ c.before.before.before.before.before.before.before.before.before.before.before.before.before.loop.invariant c.before.before.before.before.before.before.before.before.before.before.before.before.loop-test.true _ _ c.before.before.before.before.before.before.before.before.before.before.lay-one.ensures c.before.before.before.before.before.before.before.if1.true _ c.before.before.before.before.before.before.in-force.ensures _ _ c.before.before.before.before.Lay-at.ensures _ _ c.before.place-in.ensures c.row-in.ensures)
+    (λ c. search lays.laying_fits)
     (λ c. search rules)
     (λ c. search rules)
-    (λ c. lays.laying-one _ _ _ _ _ _ _ _ _ _ _ _ _ _ _ c.before.before.before.before.before.before.loop.invariant c.before.before.before.before.before.loop-test.true _ _ c.before.before.before.lay-one.ensures c.if1.false)
-    (λ c κs. (search children.laying-place, search children.laying-row))
+    (λ c. lays.laying_one _ _ _ _ _ _ _ _ _ _ _ _ _ _ _ c.before.before.before.before.before.before.loop.invariant c.before.before.before.before.before.loop-test.true _ _ c.before.before.before.lay-one.ensures c.if1.false)
+    (λ c κs. (search children.laying_place, search children.laying_row))
     (λ c. search rules)
-    (λ c. search children.laying-end))
+    (λ c. search children.laying_end))
     (λ t. lay-declared-lts.spec (
       lay-children-below t,
       lay-children.Post,
@@ -252,17 +252,17 @@ pub +lay-at-lay-children-lay-declared-lay-foreign-lay-hold-lay-right-lay-value-s
     )
     (lay-declared-at t)
     lay-declared.Post
-    (λ c. search lays.under-fits)
-    (λ c κs. (search rules, (search lays.entries-ready, search rules)))
+    (λ c. search lays.under_fits)
+    (λ c κs. (search rules, (search lays.entries_ready, search rules)))
     (λ c κs. search rules)
     (λ c κs. search rules)
-    (λ c κs. (search steps.ready-past, search lays.own-under))
-    (λ c κs. (search rules, (let a = c.before.before.before.before.before.before.before.before.before.before.args in let p = c.before.before.before.before.before.before.before.before.before.before.requires.1 in let e = c.before.before.before.before.before.before.lay-children in lays.own-ready a.count a.levels a.s.now a.around a.at a.stop a.doubt a.table.now a.row a.base p.0 e.new.0 e.result e.ensures c.before.before.row-in.result c.before.before.row-in.ensures c.before.before.before.place-in.result c.before.base-of.result c.before.before.before.place-in.ensures c.before.base-of.ensures, search rules)))
+    (λ c κs. (search steps.ready_past, search lays.own_under))
+    (λ c κs. (search rules, (let a = c.before.before.before.before.before.before.before.before.before.before.args in let p = c.before.before.before.before.before.before.before.before.before.before.requires.1 in let e = c.before.before.before.before.before.before.lay-children in lays.own_ready a.count a.levels a.s.now a.around a.at a.stop a.doubt a.table.now a.row a.base p.0 e.new.0 e.result e.ensures c.before.before.row-in.result c.before.before.row-in.ensures c.before.before.before.place-in.result c.before.base-of.result c.before.before.before.place-in.ensures c.before.base-of.ensures, search rules)))
     (λ c κs. search rules)
     (λ c κs. (let a = c.before.before.before.before.before.before.before.before.before.before.before.before.before.before.before.args in let p = c.before.before.before.before.before.before.before.before.before.before.before.before.before.before.before.requires.1 in let e = c.before.before.before.before.before.before.before.before.before.before.before.lay-children in let v = c.before.before.before.before.lay-value in lays.declared-end a.count a.levels a.s.now a.around a.at a.stop a.doubt a.table.now a.row a.base p.0 e.new.0 e.result e.ensures c.before.before.before.before.before.before.before.row-in.result c.before.before.before.before.before.before.before.row-in.ensures c.before.before.before.before.before.before.before.before.place-in.result c.before.before.before.before.before.before.base-of.result c.before.before.before.before.before.before.before.before.place-in.ensures c.before.before.before.before.before.before.base-of.ensures v.new.0 v.result v.ensures c.before.row-in2.result c.before.row-in2.ensures, search rules))
     (λ c κs. let a = c.before.before.before.before.before.before.before.before.before.before.before.before.before.before.before.before.args in let p = c.before.before.before.before.before.before.before.before.before.before.before.before.before.before.before.before.requires.1 in let e = c.before.before.before.before.before.before.before.before.before.before.before.before.lay-children in let v = c.before.before.before.before.before.lay-value in lays.declared-lent a.count a.levels a.s.now a.around a.at a.stop a.doubt a.table.now a.row a.base p.0 e.new.0 e.result e.ensures c.before.before.before.before.before.before.before.before.row-in.result c.before.before.before.before.before.before.before.before.row-in.ensures c.before.before.before.before.before.before.before.before.before.place-in.result c.before.before.before.before.before.before.before.base-of.result c.before.before.before.before.before.before.before.before.before.place-in.ensures c.before.before.before.before.before.before.before.base-of.ensures v.new.0 v.result v.ensures)
     (λ c. search rules)
-    (λ c. let a = c.before.before.before.before.before.before.before.before.before.before.before.before.before.before.before.before.before.before.before.args in let p = c.before.before.before.before.before.before.before.before.before.before.before.before.before.before.before.before.before.before.before.requires.1 in let e = c.before.before.before.before.before.before.before.before.before.before.before.before.before.before.before.lay-children in let v = c.before.before.before.before.before.before.before.before.lay-value in lays.declared-done a.count a.levels a.s.now a.around a.at a.stop a.doubt a.table.now a.row a.base p.0 e.new.0 e.result e.ensures c.before.before.before.before.before.before.before.before.before.before.before.row-in.result c.before.before.before.before.before.before.before.before.before.before.before.row-in.ensures c.before.before.before.before.before.before.before.before.before.before.before.before.place-in.result c.before.before.before.before.before.before.before.before.before.before.base-of.result c.before.before.before.before.before.before.before.before.before.before.before.before.place-in.ensures c.before.before.before.before.before.before.before.before.before.before.base-of.ensures v.new.0 v.result v.ensures c.before.before.before.before.before.row-in2.result c.before.before.before.before.before.row-in2.ensures c.before.before.before.declaration.result c.before.before.lay.new.0 c.before.before.before.declaration.ensures c.before.before.lay.ensures))
+    (λ c. let a = c.before.before.before.before.before.before.before.before.before.before.before.before.before.before.before.before.before.before.before.args in let p = c.before.before.before.before.before.before.before.before.before.before.before.before.before.before.before.before.before.before.before.requires.1 in let e = c.before.before.before.before.before.before.before.before.before.before.before.before.before.before.before.lay-children in let v = c.before.before.before.before.before.before.before.before.lay-value in lays.declared_done a.count a.levels a.s.now a.around a.at a.stop a.doubt a.table.now a.row a.base p.0 e.new.0 e.result e.ensures c.before.before.before.before.before.before.before.before.before.before.before.row-in.result c.before.before.before.before.before.before.before.before.before.before.before.row-in.ensures c.before.before.before.before.before.before.before.before.before.before.before.before.place-in.result c.before.before.before.before.before.before.before.before.before.before.base-of.result c.before.before.before.before.before.before.before.before.before.before.before.before.place-in.ensures c.before.before.before.before.before.before.before.before.before.before.base-of.ensures v.new.0 v.result v.ensures c.before.before.before.before.before.row-in2.result c.before.before.before.before.before.row-in2.ensures c.before.before.before.declaration.result c.before.before.lay.new.0 c.before.before.before.declaration.ensures c.before.before.lay.ensures))
     (λ t. lay-foreign-lts.spec (
       in-foreign-reads.Asked,
       in-foreign-reads.Learnt,
@@ -278,7 +278,7 @@ pub +lay-at-lay-children-lay-declared-lay-foreign-lay-hold-lay-right-lay-value-s
       lay-right.Post,
     )
     (lay-foreign-at t)
-    lay-foreign.Post
+    lay_foreign.Post
     (λ c. search rules)
     (λ c κs. search rules)
     (λ c κs. search rules)
@@ -287,10 +287,10 @@ pub +lay-at-lay-children-lay-declared-lay-foreign-lay-hold-lay-right-lay-value-s
     (λ c. search rules)
     (λ c. search rules)
     (λ c κs. search rules)
-    (λ c κs. (search rules, (search lays.body-ready, (search lays.body-right, search rules))))
+    (λ c κs. (search rules, (search lays.body_ready, (search lays.body-right, search rules))))
     (λ c. search rules)
     (λ c. search rules)
-    (λ c κs. (search rules, (search lays.sure-ready, (search lays.sure-right, search rules))))
+    (λ c κs. (search rules, (search lays.sure_ready, (search lays.sure-right, search rules))))
     (λ c. search rules)
     (λ c. search rules))
     (λ t. lay-hold-lts.spec (
@@ -310,17 +310,17 @@ pub +lay-at-lay-children-lay-declared-lay-foreign-lay-hold-lay-right-lay-value-s
       lay-reads.Learnt,
     )
     (lay-hold-at t)
-    lay-hold.Post
+    lay_hold.Post
     (λ c κs. search rules)
     (λ c κs. search rules)
-    (λ c. search lays.under-fits)
-    (λ c κs. (search rules, (search lays.children-ready, search rules)))
+    (λ c. search lays.under_fits)
+    (λ c κs. (search rules, (search lays.children_ready, search rules)))
     (λ c κs. search rules)
     (λ c κs. search rules)
     (λ c κs. (search lays.children-end, search rules))
     (λ c κs. search lays.children-lent)
     (λ c. search rules)
-    (λ c. let a = c.before.before.before.before.before.before.before.before.before.before.before.before.before.before.before.args in let p = c.before.before.before.before.before.before.before.before.before.before.before.before.before.before.before.requires.1 in let r = c.before.before.before.before.before.before.before.before.before.before.before.reading in let n = c.before.before.before.before.before.before.before.before.before.before.before.before.children in let e = c.before.before.before.before.before.before.before.before.before.lay-children in lays.children-done a.holder a.count a.levels a.s.now a.around a.at a.stop a.doubt a.table.now a.row a.base p.0 r.result n.result r.ensures n.ensures e.new.0 e.result e.ensures c.before.before.before.before.before.before.row-in.result c.before.before.before.before.before.before.row-in.ensures c.before.before.before.before.kind.result c.before.before.before.holder.result c.before.before.lay.new.0 c.before.before.before.before.kind.ensures c.before.before.before.holder.ensures c.before.before.lay.ensures))
+    (λ c. let a = c.before.before.before.before.before.before.before.before.before.before.before.before.before.before.before.args in let p = c.before.before.before.before.before.before.before.before.before.before.before.before.before.before.before.requires.1 in let r = c.before.before.before.before.before.before.before.before.before.before.before.reading in let n = c.before.before.before.before.before.before.before.before.before.before.before.before.children in let e = c.before.before.before.before.before.before.before.before.before.lay-children in lays.children_done a.holder a.count a.levels a.s.now a.around a.at a.stop a.doubt a.table.now a.row a.base p.0 r.result n.result r.ensures n.ensures e.new.0 e.result e.ensures c.before.before.before.before.before.before.row-in.result c.before.before.before.before.before.before.row-in.ensures c.before.before.before.before.kind.result c.before.before.before.holder.result c.before.before.lay.new.0 c.before.before.before.before.kind.ensures c.before.before.before.holder.ensures c.before.before.lay.ensures))
     (λ t. lay-right-lts.spec (
       in-foreign-reads.Asked,
       in-foreign-reads.Learnt,
@@ -337,13 +337,13 @@ pub +lay-at-lay-children-lay-declared-lay-foreign-lay-hold-lay-right-lay-value-s
     lay-right.Post
     (λ c κs. search rules)
     (λ c. search rules)
-    (λ c. search lays.under-fits)
-    (λ c κs. (search rules, (search lays.right-ready, search rules)))
+    (λ c. search lays.under_fits)
+    (λ c κs. (search rules, (search lays.right_ready, search rules)))
     (λ c κs. search rules)
     (λ c κs. search lays.right_end)
     (λ c κs. search lays.right-lent)
     (λ c. search rules)
-    (λ c. let a = c.before.before.before.before.before.before.before.before.before.before.before.before.before.args in let p = c.before.before.before.before.before.before.before.before.before.before.before.before.before.requires.1 in let i = c.before.before.before.before.before.before.before.before.before.before.in-foreign in let v = c.before.before.before.before.before.before.before.before.lay-value in lays.right-done a.s.now a.levels a.around a.place a.size a.doubt a.table.now a.row a.base p.0 i.result i.ensures p.1.0 v.new.0 v.result v.ensures c.before.before.before.before.before.row-in.result c.before.before.before.before.before.row-in.ensures c.before.before.before.foreign.result c.before.before.lay.new.0 c.before.before.before.foreign.ensures c.before.before.lay.ensures))
+    (λ c. let a = c.before.before.before.before.before.before.before.before.before.before.before.before.before.args in let p = c.before.before.before.before.before.before.before.before.before.before.before.before.before.requires.1 in let i = c.before.before.before.before.before.before.before.before.before.before.in-foreign in let v = c.before.before.before.before.before.before.before.before.lay-value in lays.right_done a.s.now a.levels a.around a.place a.size a.doubt a.table.now a.row a.base p.0 i.result i.ensures p.1.0 v.new.0 v.result v.ensures c.before.before.before.before.before.row-in.result c.before.before.before.before.before.row-in.ensures c.before.before.before.foreign.result c.before.before.lay.new.0 c.before.before.before.foreign.ensures c.before.before.lay.ensures))
     λ t. lay-value-lts.spec (
       lay-plain-reads.Asked,
       lay-plain-reads.Learnt,
@@ -354,11 +354,11 @@ pub +lay-at-lay-children-lay-declared-lay-foreign-lay-hold-lay-right-lay-value-s
     )
     (lay-value-at t)
     lay-value.Post
-    (λ c κs. (search lays.head-known, ((search lays.head-there, search rules, search rules), (search steps.ready-lent, search steps.ready-low))))
-    (λ c κs. (search rules, (search lays.plain_ready, (search lays.levels-left, search rules, search rules))))
+    (λ c κs. (search lays.head_known, ((search lays.head_there, search rules, search rules), (search steps.ready_lent, search steps.ready_low))))
+    (λ c κs. (search rules, (search lays.plain_ready, (search lays.levels_left, search rules, search rules))))
     (λ c. search rules)
-    (λ c. search lays.plain-not)
-    (λ c. search lays.under-fits)
-    (λ c κs. (search lays.plain-next, search steps.ready-past))
+    (λ c. search lays.plain_not)
+    (λ c. search lays.under_fits)
+    (λ c κs. (search lays.plain-next, search steps.ready_past))
     (λ c. search rules)
     (λ c. search lays.plain_done)

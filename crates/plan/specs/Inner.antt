@@ -9,17 +9,17 @@ use Rattle.rows.specs.declared.row.Row.{Row}
 use Rattle.rows.specs.Table.{own_of}
 use Rattle.encode.specs.Encode.{head_of}
 
-abbrev pub marksOf : ℕ → ℕ → ℕ → List ℕ
-marksOf marks first second = take marks (first ∷ second ∷ [])
+abbrev pub marks_of : ℕ → ℕ → ℕ → List ℕ
+marks_of marks first second = take marks (first ∷ second ∷ [])
 
-unfoldable pub planBytes : Plan → List ℕ
-planBytes p = marksOf p.marks p.first p.second ++ (p.lead ∷ bytes_of p.size (value_of p.value))
+unfoldable pub plan_bytes : Plan → List ℕ
+plan_bytes p = marks_of p.marks p.first p.second ++ (p.lead ∷ bytes_of p.size (value_of p.value))
 
 -- it is a plan of these bytes; there are never more than two marks and 16 bytes of a number
 pub record Plans (p : Plan) (bytes : List ℕ) : Type 0 where
   pub few : p.marks ≤ 2
   pub short : p.size ≤ 16
-  pub spells : planBytes p ≡ bytes
+  pub spells : plan_bytes p ≡ bytes
 
 -- the lead of an integer at a value position, and 256 times the size of what stands behind it
 pub record Formed (r : ℕ) (signed : Bool) (n : ℕ) : Type 0 where
@@ -27,5 +27,5 @@ pub record Formed (r : ℕ) (signed : Bool) (n : ℕ) : Type 0 where
   pub form-is : (r % 256) ∷ bytes_of (r / 256) n ≡ form (integer signed) n
 
 -- what stands before the row's payload, or before its children, which take `size` bytes
-unfoldable pub ownHead : Row → ℕ → List ℕ
-ownHead w size = head_of (own_of w) size
+unfoldable pub own_head : Row → ℕ → List ℕ
+own_head w size = head_of (own_of w) size

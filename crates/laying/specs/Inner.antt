@@ -2,18 +2,18 @@
 -- how they are read plays no part. Definitions only, which no promise to a user cites.
 use Rattle.std.specs.Prelude.{◌≡◌, Bool, true, false, List, ℕ, ◌+◌, ◌*◌, ◌≤◌, ◌<◌}
 use Rattle.std.proofs.lemmas.List.Edits.{sets}
-use Rattle.rows.specs.Table.{wordsPerRow, words_of, lent, limit}
-use Rattle.rows.specs.Kinds.{own, leafRow, kindKey, spanOwn}
+use Rattle.rows.specs.Table.{words_per_row, words_of, lent, limit}
+use Rattle.rows.specs.Kinds.{own, leaf_row, kind_key, span_own}
 use Rattle.format.specs.declared.refusal.Refusal.{Refusal}
-use Rattle.format.specs.Refusal.{refusalNumber}
+use Rattle.format.specs.Refusal.{refusal_number}
 use Rattle.format.specs.declared.head.Spelling.{Spelling}
 use Rattle.format.specs.declared.head.Spelling.TheVariants.{At}
 use Rattle.format.specs.declared.head.Children.{Children}
 use Rattle.format.specs.Tree.{Tree, leaf, Trees, none, size, sizes}
-use Rattle.format.specs.Value.{Reading, right, wrong, Readings, ran, broke, inForce}
-use Rattle.format.specs.Layout.{isEntry, layout, layouts}
-use Rattle.measure.specs.Contracts.{harmed, someHarmed, placeAndRow, place_in, row_in}
-use Rattle.registry.specs.Contracts.{walk, chain, Below, firstIn, Based}
+use Rattle.format.specs.Value.{Reading, right, wrong, Readings, ran, broke, in_force}
+use Rattle.format.specs.Layout.{is_entry, layout, layouts}
+use Rattle.measure.specs.Inner.{harmed, some_harmed, place_and_row, place_in, row_in}
+use Rattle.registry.specs.Inner.{walk, chain, Below, first_in, Based}
 
 -- ---- a right reading: its tree, and the place behind it
 
@@ -21,9 +21,9 @@ unfoldable pub Right : Reading → Type 0
 Right (right t next) = Unit {0}
 Right (wrong e place) = ⊥
 
-unfoldable pub treeRead : Reading → Tree
-treeRead (right t next) = t
-treeRead (wrong e place) = leaf (own 0 0 0 0 0)
+unfoldable pub tree_read : Reading → Tree
+tree_read (right t next) = t
+tree_read (wrong e place) = leaf (own 0 0 0 0 0)
 
 unfoldable pub next_of : Reading → ℕ
 next_of (right t next) = next
@@ -33,13 +33,13 @@ unfoldable pub Ran : Readings → Type 0
 Ran (ran ts next) = Unit {0}
 Ran (broke e place) = ⊥
 
-unfoldable pub treesRead : Readings → Trees
-treesRead (ran ts next) = ts
-treesRead (broke e place) = none
+unfoldable pub trees_read : Readings → Trees
+trees_read (ran ts next) = ts
+trees_read (broke e place) = none
 
-unfoldable pub nextsOf : Readings → ℕ
-nextsOf (ran ts next) = next
-nextsOf (broke e place) = 0
+unfoldable pub nexts_of : Readings → ℕ
+nexts_of (ran ts next) = next
+nexts_of (broke e place) = 0
 
 -- ---- one position
 
@@ -47,42 +47,42 @@ nextsOf (broke e place) = 0
 -- documents is damaged
 pub record Ready (P : Reading) (doubt : Bool) (table : List ℕ) (row base k : ℕ) : Type 0 where
   pub good : Right P
-  pub room : row + size (treeRead P) ≤ lent table
-  pub small : row + size (treeRead P) ≤ limit
-  pub below : Below table (firstIn base) k row
+  pub room : row + size (tree_read P) ≤ lent table
+  pub small : row + size (tree_read P) ≤ limit
+  pub below : Below table (first_in base) k row
   pub based : Based table base k
-  pub sure : (doubt ≡ false → harmed (treeRead P) ≡ false)
+  pub sure : (doubt ≡ false → harmed (tree_read P) ≡ false)
 
 -- its rows stand in the table; f has the place and the row behind it
 pub record Did (P : Reading) (table : List ℕ) (row first k : ℕ) (table' : List ℕ) (f : ℕ) : Type 0 where
-  pub words : table' ≡ sets table (wordsPerRow * row) (layout (treeRead P) row (chain table first k))
+  pub words : table' ≡ sets table (words_per_row * row) (layout (tree_read P) row (chain table first k))
   pub place : place_in f ≡ next_of P
-  pub past : row_in f ≡ row + size (treeRead P)
+  pub past : row_in f ≡ row + size (tree_read P)
 
 -- r is 0, nothing is laid and P is no key; or P takes one row, which stands in the table, and ends at r
 pub record OneTried (P : Reading) (key : Bool) (table : List ℕ) (row first k : ℕ) (table' : List ℕ) (r : ℕ) : Type 0 where
   pub kept : r ≡ 0 → table' ≡ table
   pub other : r ≡ 0 → key ≡ false
   pub low : r ≤ limit
-  pub did : (r ≡ 0 → ⊥) → Did P table row first k table' (placeAndRow r (row + 1))
+  pub did : (r ≡ 0 → ⊥) → Did P table row first k table' (place_and_row r (row + 1))
 
 -- ---- positions in a row, the first of them number i of what holds them, which has k entries in force around it
 
 -- where they are entries, the last one in force ends at `row`
 pub record ReadyAll (Q : Readings) (c : Children) (doubt : Bool) (table : List ℕ) (row base k i : ℕ) : Type 0 where
   pub good : Ran Q
-  pub room : row + sizes (treesRead Q) ≤ lent table
-  pub small : row + sizes (treesRead Q) ≤ limit
-  pub below : Below table (firstIn base) (inForce c k i) row
-  pub based : Based table base (inForce c k i)
-  pub sure : (doubt ≡ false → someHarmed (treesRead Q) ≡ false)
-  pub walked : (isEntry c ≡ true → base < 4294967296)
-  pub linked : (isEntry c ≡ true → walk table (firstIn base) (inForce c k i) ≡ row)
+  pub room : row + sizes (trees_read Q) ≤ lent table
+  pub small : row + sizes (trees_read Q) ≤ limit
+  pub below : Below table (first_in base) (in_force c k i) row
+  pub based : Based table base (in_force c k i)
+  pub sure : (doubt ≡ false → some_harmed (trees_read Q) ≡ false)
+  pub walked : (is_entry c ≡ true → base < 4294967296)
+  pub linked : (is_entry c ≡ true → walk table (first_in base) (in_force c k i) ≡ row)
 
 pub record DidAll (Q : Readings) (c : Children) (table : List ℕ) (row first k i : ℕ) (table' : List ℕ) (f : ℕ) : Type 0 where
-  pub words : table' ≡ sets table (wordsPerRow * row) (layouts (treesRead Q) (isEntry c) row (chain table first (inForce c k i)))
-  pub place : place_in f ≡ nextsOf Q
-  pub past : row_in f ≡ row + sizes (treesRead Q)
+  pub words : table' ≡ sets table (words_per_row * row) (layouts (trees_read Q) (is_entry c) row (chain table first (in_force c k i)))
+  pub place : place_in f ≡ nexts_of Q
+  pub past : row_in f ≡ row + sizes (trees_read Q)
 
 -- ---- a key laid, whose text is x and ends at r
 
@@ -91,7 +91,7 @@ pub record KeyLaid (x : Spelling) (table : List ℕ) (row : ℕ) (table' : List 
   pub size : ℕ
   pub is : x ≡ At place size
   pub ends : r ≡ place + size
-  pub put : table' ≡ sets table (wordsPerRow * row) (words_of (leafRow (spanOwn kindKey place size) row))
+  pub put : table' ≡ sets table (words_per_row * row) (words_of (leaf_row (span_own kind_key place size) row))
 
 -- ---- a foreign body that reads as X is damaged, and this is its verdict
 
@@ -99,4 +99,4 @@ pub record Damaged (X : Reading) (verdict : ℕ) : Type 0 where
   pub reason : Refusal
   pub place : ℕ
   pub is : X ≡ wrong reason place
-  pub number : verdict ≡ refusalNumber reason
+  pub number : verdict ≡ refusal_number reason

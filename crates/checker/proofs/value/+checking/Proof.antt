@@ -2,31 +2,31 @@
 -- level the way from a row to its children to one child. A law of Checks answers each way out. Assumes nothing.
 use Prim.Native.Nat.{ℕ, ◌+◌, ◌*◌, ◌-◌, ◌<◌}
 use borrow.Author.Rules.{rules}
-use Rattle.checker.proofs.Checks.{alone-fits, child-alone, child-asks, child-based, child-key, child-value, damaged-inside, declared-broken, declared-until, entries-ask, entries-based, going-all, going-first, going_next, going-broken, going-ready, Going, hold-asks, hold-based, own-asks, own-based, own-under, row-bad, row-damaged, row-declare, row-hold, row-leaf, row-refer, row-whole, ready-few, ready-lent, ready-room, value-deep, value-based, value_in, value_out, under, whole-few}
-use Rattle.registry.proofs.Walks.{based-fewer}
+use Rattle.checker.proofs.Checks.{alone-fits, child-alone, child_asks, child-based, child_key, child-value, damaged-inside, declared_broken, declared_until, entries_ask, entries-based, going_all, going_first, going_next, going_broken, going_ready, Going, hold_asks, hold-based, own_asks, own-based, own_under, row-bad, row-damaged, row-declare, row-hold, row-leaf, row-refer, row-whole, ready_few, ready_lent, ready_room, value_deep, value-based, value_in, value_out, under, whole-few}
+use Rattle.registry.proofs.Walks.{based_fewer}
 use borrow.Fn.Kinds.{In}
 use borrow.Fn.PlainCycle.{Measures, is, falls, and}
 use Rattle.checker.proofs.value.check_child.Reads as check-child
 use Rattle.checker.proofs.value.check_child.Kinds as check-child-kinds
-use Rattle.checker.proofs.value.+check_child_check_children_check_declared_check_row_check_value.Lts-check_child as check-child-lts
+use Rattle.checker.proofs.value.+checking.Lts-check_child as check-child-lts
 use Rattle.checker.proofs.value.check_children.Reads as check-children
 use Rattle.checker.proofs.value.check_children.Kinds as check-children-kinds
-use Rattle.checker.proofs.value.+check_child_check_children_check_declared_check_row_check_value.Lts-check_children as check-children-lts
+use Rattle.checker.proofs.value.+checking.Lts-check_children as check-children-lts
 use Rattle.checker.proofs.value.check_declared.Reads as check-declared
 use Rattle.checker.proofs.value.check_declared.Kinds as check-declared-kinds
-use Rattle.checker.proofs.value.+check_child_check_children_check_declared_check_row_check_value.Lts-check_declared as check-declared-lts
+use Rattle.checker.proofs.value.+checking.Lts-check_declared as check-declared-lts
 use Rattle.checker.proofs.value.check_row.Reads as check-row
 use Rattle.checker.proofs.value.check_row.Kinds as check-row-kinds
-use Rattle.checker.proofs.value.+check_child_check_children_check_declared_check_row_check_value.Lts-check_row as check-row-lts
+use Rattle.checker.proofs.value.+checking.Lts-check_row as check-row-lts
 use Rattle.checker.proofs.value.check_value.Reads as check-value
 use Rattle.checker.proofs.value.check_value.Kinds as check-value-kinds
-use Rattle.checker.proofs.value.+check_child_check_children_check_declared_check_row_check_value.Lts-check_value as check-value-lts
+use Rattle.checker.proofs.value.+checking.Lts-check_value as check-value-lts
 use Rattle.checker.proofs.one.check_damaged.Reads as check-damaged-reads
 use Rattle.checker.proofs.one.check_key.Reads as check-key-reads
 use Rattle.checker.proofs.one.check_reference.Reads as check-reference-reads
 use Rattle.checker.proofs.one.ends_at.Reads as ends-at-reads
 use Rattle.checker.proofs.one.stands_alone.Reads as stands-alone-reads
-use Rattle.registry.specs.Contracts.{firstIn}
+use Rattle.registry.specs.Inner.{first_in}
 use Rattle.registry.proofs.base_of.Reads as base-of-reads
 use Rattle.format.proofs.in_foreign.Reads as in-foreign-reads
 use Rattle.format.proofs.head.Children.in_force.Reads as in-force-reads
@@ -36,10 +36,10 @@ use Rattle.format.proofs.head.Holder.reading.Reads as reading-reads
 use Rattle.rows.proofs.number.Reads as number-reads
 use Rattle.rows.proofs.row_at.Reads as row-at-reads
 use Rattle.rules.proofs.shape_of.Reads as shape-of-reads
-use Rattle.checker.proofs.value.+check_child_check_children_check_declared_check_row_check_value.{
+use Rattle.checker.proofs.value.+checking.{
   statement,
 }
-use Rattle.checker.proofs.value.+check_child_check_children_check_declared_check_row_check_value.Tie.{
+use Rattle.checker.proofs.value.+checking.Tie.{
   close,
 }
 
@@ -115,7 +115,7 @@ check-value-below t =
 
 abbrev check-children-Inv-loop : check-children-lts.invariant-loop
 check-children-Inv-loop table n s row levels base around children count i₀ here₀ i here =
-    Going levels table n s (firstIn base) around children count row i here
+    Going levels table n s (first_in base) around children count row i here
 
 abbrev check-children-μ-loop : check-children-lts.decreases-loop
 check-children-μ-loop table n s row levels base around children count i₀ here₀ i here = count - i
@@ -145,12 +145,12 @@ pub +check-child-check-children-check-declared-check-row-check-value-spec :
     check-child.Post
     (λ c κs. search rules)
     (λ c κs. search rules)
-    (λ c. search child-key)
-    (λ c κs. (search ready-room, search ready-few))
+    (λ c. search child_key)
+    (λ c κs. (search ready_room, search ready_few))
     (λ c. search alone-fits)
     (λ c. search child-alone)
     (λ c κs. search rules)
-    (λ c κs. (search rules, (search child-asks, search value-based, search rules)))
+    (λ c κs. (search rules, (search child_asks, search value-based, search rules)))
     (λ c. search child-value))
     (λ t. check-children-lts.spec
     (check-child-below t, check-child.Post)
@@ -158,15 +158,15 @@ pub +check-child-check-children-check-declared-check-row-check-value-spec :
     check-children.Post
     check-children-Inv-loop
     check-children-μ-loop
-    (λ c. search going-first)
-    (λ c κs. (search rules, (search going-ready, search child-based, search rules)))
+    (λ c. search going_first)
+    (λ c κs. (search rules, (search going_ready, search child-based, search rules)))
     (λ c. search rules)
     (λ c. search rules)
     (λ c. search rules)
     (λ c. search going_next)
     (λ c. search rules)
-    (λ c. search going-broken)
-    (λ c. search going-all))
+    (λ c. search going_broken)
+    (λ c. search going_all))
     (λ t. check-declared-lts.spec (
       check-children-below t,
       check-children.Post,
@@ -177,13 +177,13 @@ pub +check-child-check-children-check-declared-check-row-check-value-spec :
     )
     (check-declared-at t)
     check-declared.Post
-    (λ c κs. (search rules, (search entries-ask, search entries-based, search rules)))
+    (λ c κs. (search rules, (search entries_ask, search entries-based, search rules)))
     (λ c. search rules)
-    (λ c κs. (search rules, search own-under))
-    (λ c κs. (search rules, (search own-asks, search own-based, search rules)))
+    (λ c κs. (search rules, search own_under))
+    (λ c κs. (search rules, (search own_asks, search own-based, search rules)))
     (λ c. search rules)
-    (λ c. search declared-until)
-    (λ c. search declared-broken))
+    (λ c. search declared_until)
+    (λ c. search declared_broken))
     (λ t. check-row-lts.spec (
       check-reference-reads.Asked,
       check-reference-reads.Learnt,
@@ -210,13 +210,13 @@ pub +check-child-check-children-check-declared-check-row-check-value-spec :
     (λ c. search rules)
     (λ c. search rules)
     (λ c. search rules)
-    (λ c κs. (search ready-lent, search rules, search rules, search rules))
+    (λ c κs. (search ready_lent, search rules, search rules, search rules))
     (λ c. search rules)
     (λ c κs. search rules)
     (λ c κs. search rules)
     (λ c κs. search rules)
     (λ c. search rules)
-    (λ c κs. (search rules, (search hold-asks, search hold-based, search rules)))
+    (λ c κs. (search rules, (search hold_asks, search hold-based, search rules)))
     (λ c. search rules)
     (λ c. search rules)
     (λ c κs. search rules)
@@ -224,7 +224,7 @@ pub +check-child-check-children-check-declared-check-row-check-value-spec :
     (λ c. search rules)
     (λ c. search rules)
     (λ c κs. search rules)
-    (λ c κs. (search rules, (search (under, whole-few, rules), search (based-fewer, whole-few, rules), search rules)))
+    (λ c κs. (search rules, (search (under, whole-few, rules), search (based_fewer, whole-few, rules), search rules)))
     (λ c. search rules)
     (λ c κs. (search rules, search damaged-inside, search rules))
     (λ c. search row-bad)
@@ -246,7 +246,7 @@ pub +check-child-check-children-check-declared-check-row-check-value-spec :
     )
     (check-value-at t)
     check-value.Post
-    (λ c. search value-deep)
+    (λ c. search value_deep)
     (λ c. search value_out)
     (λ c κs. search rules)
     (λ c κs. search rules)
