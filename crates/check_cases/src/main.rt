@@ -1,5 +1,7 @@
 // Checks many tables. Each stands behind eight bytes: how many words it has (two bytes), n (four bytes) and how many bytes of data there are
 // (two bytes), low byte first. The words follow, four bytes each, and then the data.
+#![tactic(auto)]
+
 ghost use Rattle.std.specs.Prelude.{◌+◌, ◌*◌, ◌≤◌, ◌<◌, length};
 
 use checker::Checked;

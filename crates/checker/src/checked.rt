@@ -1,5 +1,5 @@
 // What checking a table answers.
-#[derive(Drop)]
+#[derive(Clone, Copy)]
 pub enum Checked {
     // 0: the rows are right.
     Right { rows: usize },

@@ -1,5 +1,5 @@
 // How a tree stands in the table: until the row behind it, or a row rule is broken.
-#[derive(Drop)]
+#[derive(Clone, Copy)]
 pub enum Extent {
     Until { next: usize },
     Broken,

@@ -1,4 +1,6 @@
 // Whether a table, wherever it came from, obeys the row rules.
+#![tactic(auto)]
+
 mod checked;
 mod extent;
 mod number;

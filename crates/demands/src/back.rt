@@ -2,7 +2,7 @@ use reader::Answer;
 use writer::Written;
 
 // What writing a table and reading its document back answers.
-#[derive(Drop)]
+#[derive(Clone, Copy)]
 pub enum Back {
     // The table was not written.
     Unwritten { why: Written },

@@ -1,4 +1,6 @@
 // The demands, across the crates.
+#![tactic(auto)]
+
 mod back;
 
 ghost use Rattle.std.specs.Prelude.{◌≡◌, length};

@@ -1,1 +1,2 @@
 // The bytes of a tree, and that they read back. Definitions and theorems only.
+#![tactic(auto)]

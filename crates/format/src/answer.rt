@@ -1,7 +1,7 @@
 use crate::refusal::Refusal;
 
 // What reading a document answers.
-#[derive(Drop)]
+#[derive(Clone, Copy)]
 pub enum Answer {
     // 0: the rows used.
     Accepted { rows: usize },

@@ -1,21 +1,21 @@
 use crate::refusal::Refusal;
 
 // A length, count or number and the place behind it, or why there is none.
-#[derive(Drop)]
+#[derive(Clone, Copy)]
 pub enum Count {
     Is { value: usize, next: usize },
     Not { why: Refusal },
 }
 
 // Where the bytes of a text or of a key stand, or why there is none.
-#[derive(Drop)]
+#[derive(Clone, Copy)]
 pub enum Spelling {
     At { place: usize, size: usize },
     No { why: Refusal },
 }
 
 // What a leaf holds.
-#[derive(Drop)]
+#[derive(Clone, Copy)]
 pub enum Content {
     Constant {
         kind: u32,
@@ -39,7 +39,7 @@ pub enum Content {
 }
 
 // What holds elements or entries.
-#[derive(Drop)]
+#[derive(Clone, Copy)]
 pub enum Holder {
     Array,
     Record,
@@ -48,7 +48,7 @@ pub enum Holder {
 
 // What stands at a value position: a leaf and the place behind it; a holder, a declaration, and the place of the first that it holds; a
 // reference; a foreign body; or a refusal.
-#[derive(Drop)]
+#[derive(Clone, Copy)]
 pub enum Head {
     Leaf {
         content: Content,
@@ -78,7 +78,7 @@ pub enum Head {
 }
 
 // How the children of a holder are read: values; keys and values in turn; or entries, each in force for those behind it.
-#[derive(Drop)]
+#[derive(Clone, Copy)]
 pub enum Children {
     Plain,
     Keyed,

@@ -1,4 +1,6 @@
 // What a document of the marker format means.
+#![tactic(auto)]
+
 mod answer;
 mod children;
 mod head;

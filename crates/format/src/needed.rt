@@ -1,7 +1,7 @@
 use crate::refusal::Refusal;
 
 // What measuring a document answers.
-#[derive(Drop)]
+#[derive(Clone, Copy)]
 pub enum Needed {
     // 0: the rows that it needs.
     Rows { rows: usize },

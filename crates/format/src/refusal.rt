@@ -1,5 +1,5 @@
 // Why a position is refused: the paper's numbers 2 to 10 (specs/Refusal.antt).
-#[derive(Drop)]
+#[derive(Clone, Copy)]
 pub enum Refusal {
     Short,
     Marker,

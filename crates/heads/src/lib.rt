@@ -1,4 +1,6 @@
 // What stands at a place of a document, its children aside.
+#![tactic(auto)]
+
 mod behind;
 mod body;
 mod count;

@@ -1,5 +1,7 @@
 // Reads byte strings, each behind a byte of length, and shows each as an unsigned and as a signed variable integer: the four words and the
 // bytes used, or the refusal; then the shortest form, and what writing it into one byte less answers.
+#![tactic(auto)]
+
 ghost use Rattle.io.specs.Counts.{IsPrefixLen};
 
 use libc::STDOUT_FILENO;

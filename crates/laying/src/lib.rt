@@ -1,4 +1,6 @@
 // Lays the rows of a document that reads right into rows that are lent: no row is laid on hope.
+#![tactic(auto)]
+
 ghost use Rattle.std.specs.Prelude.{◌≡◌, [], ◌≤◌, length};
 ghost use Rattle.std.proofs.lemmas.List.Edits.{sets};
 ghost use Rattle.rows.specs.Table.{limit};

@@ -1,4 +1,6 @@
 // Rows of leaves: of any, by its content; and of those that are met most, straight from their bytes. And where such a leaf, or a key, ends.
+#![tactic(auto)]
+
 mod ends;
 mod leaf;
 mod plain;

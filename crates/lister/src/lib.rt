@@ -1,4 +1,6 @@
 // The listing of a document, as the paper's program prints it.
+#![tactic(auto)]
+
 use libc::STDOUT_FILENO;
 use rows::Row;
 

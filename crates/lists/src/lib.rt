@@ -1,4 +1,6 @@
 // Lent lists of numbers. The laws on them stand in proofs/: a run of numbers laid over a list, and zeros behind a place.
+#![tactic(auto)]
+
 ghost use Rattle.std.specs.Prelude.{◌≡◌};
 ghost use Rattle.lists.specs.Zeroed.{zeroed};
 

@@ -1,4 +1,6 @@
 // How many rows a document needs, or why it is refused: a pass that writes nothing and assembles no words.
+#![tactic(auto)]
+
 ghost use Rattle.std.specs.Prelude.{◌≡◌, ◌≤◌, length};
 ghost use Rattle.rows.specs.Table.{limit};
 ghost use Rattle.format.specs.Value.{value, whole, document};

@@ -1,4 +1,6 @@
 // How an answer of the library is handed to C: one u64, and for some answers words at the front of a lent list.
+#![tactic(auto)]
+
 mod pack;
 
 ghost use Rattle.std.specs.Prelude.{◌≡◌, ◌^◌, ◌≤◌, ◌<◌};

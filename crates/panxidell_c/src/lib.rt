@@ -1,4 +1,6 @@
 // The library as C sees it, by the names of include/panxidell.h. A slice is a pointer and a length there.
+#![tactic(auto)]
+
 ghost use Rattle.std.specs.Prelude.{◌≡◌, length};
 ghost use Rattle.wide.specs.Words.{value_of, words};
 ghost use Rattle.wide.specs.Family.{form};

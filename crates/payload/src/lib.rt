@@ -1,4 +1,6 @@
 // A row's payload, on any table.
+#![tactic(auto)]
+
 mod part;
 
 ghost use Rattle.std.specs.Prelude.{◌≡◌};

@@ -1,5 +1,5 @@
 // A part of the data.
-#[derive(Drop)]
+#[derive(Clone, Copy)]
 pub struct Part {
     pub place: usize,
     pub size: usize,

@@ -1,4 +1,6 @@
 // What stands before a row's payload or its children: which bytes they are.
+#![tactic(auto)]
+
 mod leads;
 mod own;
 mod plan;

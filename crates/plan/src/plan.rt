@@ -1,7 +1,7 @@
 use wide::Wide;
 
 // The bytes that stand before a row's payload or its children: up to two marks, a lead, and the low `size` bytes of a number.
-#[derive(Drop)]
+#[derive(Clone, Copy)]
 pub struct Plan {
     pub marks: usize,
     pub first: u8,

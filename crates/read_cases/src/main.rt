@@ -1,4 +1,5 @@
 // Lists many documents, each behind two bytes that are its length, low byte first.
+#![tactic(auto)]
 
 // One document, or false at the end of the input.
 fn one() -> bool {

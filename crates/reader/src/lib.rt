@@ -1,4 +1,6 @@
 // Fills a lent table from a document: the document is measured whole first, so that no row is laid on hope.
+#![tactic(auto)]
+
 ghost use Rattle.std.specs.Prelude.{◌≡◌, ◌≤◌, length};
 ghost use Rattle.rows.specs.Table.{limit};
 ghost use Rattle.format.specs.Value.{document};

@@ -1,4 +1,6 @@
 // The registry in force, found in a table: entries stand back to back, so their ends lead from each to the next.
+#![tactic(auto)]
+
 ghost use Rattle.std.specs.Prelude.{◌≡◌, ◌+◌, ◌≤◌, ◌<◌};
 ghost use Rattle.rows.specs.Table.{lent, limit};
 ghost use Rattle.registry.specs.Inner.{walk, Below, first_in, Based, base_of};

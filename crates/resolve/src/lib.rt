@@ -1,4 +1,6 @@
 // Resolving over a lent table, checked or not.
+#![tactic(auto)]
+
 mod moves;
 mod number;
 mod one_move;

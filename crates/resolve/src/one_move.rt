@@ -1,5 +1,5 @@
 // One move of resolving: none, since the row is neither a reference nor a declaration; to a row; or a broken one.
-#[derive(Drop)]
+#[derive(Clone, Copy)]
 pub enum Move {
     Stop,
     To { row: usize },

@@ -1,5 +1,5 @@
 // What resolving answers.
-#[derive(Drop)]
+#[derive(Clone, Copy)]
 pub enum Resolved {
     // 0: a row that is neither a reference nor a declaration, its end, and the moves that led there.
     At {

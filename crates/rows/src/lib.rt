@@ -1,4 +1,6 @@
 // Rows: their kinds, and a lent table of them. Nothing here knows a document.
+#![tactic(auto)]
+
 mod row; // the type and its numbers
 mod making; // a row of each kind
 

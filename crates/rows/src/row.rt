@@ -1,5 +1,5 @@
 // A row of a table, the numbers of its kinds, and the two numbers that bound a table.
-#[derive(Drop)]
+#[derive(Clone, Copy)]
 pub struct Row {
     pub kind: u32,
     pub end: u32,

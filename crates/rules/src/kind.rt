@@ -1,7 +1,7 @@
 use format::Holder;
 
 // What a row's words are to be, by its kind.
-#[derive(Drop)]
+#[derive(Clone, Copy)]
 pub enum Kind {
     Constant,
     Small,

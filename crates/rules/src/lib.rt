@@ -1,4 +1,6 @@
 // The row rules, as far as a row's own words go.
+#![tactic(auto)]
+
 mod judge;
 mod kind;
 mod shape;

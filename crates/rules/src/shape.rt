@@ -1,7 +1,7 @@
 use format::Holder;
 
 // What a row's own words make it at a value position; what stands behind it is not looked at.
-#[derive(Drop)]
+#[derive(Clone, Copy)]
 pub enum Shape {
     // They break a rule.
     Bad,

@@ -1,5 +1,7 @@
 // A walker that holds the table that it walks. Each step takes it apart and calls the covered function of `walker`, its fields in the order of
 // that one's parameters; the proofs are walks by hand.
+#![tactic(auto)]
+
 ghost use Rattle.std.specs.Prelude.{◌≡◌};
 ghost use Rattle.walker.specs.Walk.{standing, start_of, step_in};
 ghost use Rattle.table_walker.specs.TableWalker.{walker_at, walker_in, walker_on, walker_along};
@@ -7,7 +9,7 @@ ghost use Rattle.table_walker.specs.TableWalker.{walker_at, walker_in, walker_on
 use walker::Step;
 
 // A table of n rows, and a standing on it.
-#[derive(Drop)]
+#[derive(Clone, Copy)]
 pub struct Walker<'a> {
     pub table: &'a [u32],
     pub n: usize,

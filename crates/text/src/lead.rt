@@ -1,5 +1,5 @@
 // What the first byte of a sequence says: how many bytes follow, and the lowest and the highest that the next may be.
-#[derive(Drop)]
+#[derive(Clone, Copy)]
 pub enum Lead {
     Starts(usize, u8, u8),
     Never,

@@ -1,4 +1,6 @@
 // Whether bytes are text by RFC 3629, and where they first are not.
+#![tactic(auto)]
+
 mod answer;
 mod lead;
 mod lines;

@@ -1,5 +1,7 @@
 // The text check by itself, as C sees it: what its size, its times and its tests are taken of. `include/panxidell.h` does not have it: the
 // library has the check inside its calls.
+#![tactic(auto)]
+
 ghost use Rattle.std.specs.Prelude.{◌≡◌, length};
 ghost use Rattle.text.specs.Check.{text_of};
 ghost use Rattle.text_c.specs.UpTo.{up_to};

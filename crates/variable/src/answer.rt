@@ -1,7 +1,7 @@
 use wide::Wide;
 
 // What reading a variable integer answers.
-#[derive(Drop)]
+#[derive(Clone, Copy)]
 pub enum Read {
     // 0: the value and the bytes used.
     Got { value: Wide, used: usize },
@@ -10,7 +10,7 @@ pub enum Read {
 }
 
 // What writing a variable integer answers.
-#[derive(Drop)]
+#[derive(Clone, Copy)]
 pub enum Written {
     // 0: the bytes written.
     Done { used: usize },

@@ -1,4 +1,6 @@
 // The two variable integers: read from the front of a slice, written shortest at the front of a buffer.
+#![tactic(auto)]
+
 ghost use Rattle.std.specs.Prelude.{◌≡◌, length};
 ghost use Rattle.wide.specs.Words.{value_of};
 ghost use Rattle.wide.specs.Family.{form};

@@ -1,6 +1,8 @@
 // Walks over many tables. Each stands behind ten bytes: how many words it has (two bytes), n (four bytes), how many bytes of data there are
 // (two bytes) and how many asks (two bytes), low byte first. The words follow, four bytes each, then the data, and then the asks, nine bytes
 // each: what is asked, a row (four bytes) and a bound (four bytes).
+#![tactic(auto)]
+
 ghost use Rattle.std.specs.Prelude.{◌+◌, ◌*◌, ◌≤◌, ◌<◌, length};
 
 use libc::STDOUT_FILENO;

@@ -1,4 +1,6 @@
 // Steps over a lent table, checked or not.
+#![tactic(auto)]
+
 mod number;
 mod standing;
 mod step;

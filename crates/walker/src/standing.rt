@@ -1,5 +1,5 @@
 // Where a walker stands: a row, and the end of the holder around it.
-#[derive(Drop)]
+#[derive(Clone, Copy)]
 pub struct Standing {
     pub row: usize,
     pub bound: usize,

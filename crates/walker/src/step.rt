@@ -1,5 +1,5 @@
 // What a step answers.
-#[derive(Drop)]
+#[derive(Clone, Copy)]
 pub enum Step {
     // 0: the new standing.
     To { row: usize, bound: usize },

@@ -1,5 +1,7 @@
 // Writes the documents of many tables. Each stands behind twelve bytes: how many words it has (two bytes), n (four bytes), how many bytes of
 // data there are (two bytes) and the room of the output (four bytes), low byte first. The words follow, four bytes each, and then the data.
+#![tactic(auto)]
+
 ghost use Rattle.std.specs.Prelude.{◌+◌, ◌*◌, ◌<◌, ◌≤◌, length};
 ghost use Rattle.io.specs.Counts.{IsPrefixLen};
 

@@ -1,4 +1,6 @@
 // A table's document.
+#![tactic(auto)]
+
 mod flat;
 mod number;
 mod sizes;

@@ -1,5 +1,5 @@
 // What writing a table answers. The bytes needed may pass 32 bits.
-#[derive(Drop)]
+#[derive(Clone, Copy)]
 pub enum Written {
     // 0: so many bytes are written.
     Done { used: u64 },
