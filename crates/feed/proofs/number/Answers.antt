@@ -8,7 +8,7 @@ pub returns : goal.returns
 returns c =
     let a = c.args in
     let p = c.requires in
-    let byte : (i : ℕ) → get_or a.s.now i 0 < 256 = λ i. (c.type_inv.s i).fits in (
-      number_is a.s.now a.at a.size p.1 p.2 byte c.read_body-w.result c.read_body-w.ensures,
-      number-low a.s.now a.at a.size p.1 p.2 byte c.read_body-w.result c.read_body-w.ensures,
-    )
+    let byte : (i : ℕ) → get_or a.s.now i 0 < 256 = λ i. (c.type_inv.s i).fits in record {
+      value = number_is a.s.now a.at a.size p.1 p.2 byte c.read_body-w.result c.read_body-w.ensures;
+      upper_bound = number-low a.s.now a.at a.size p.1 p.2 byte c.read_body-w.result c.read_body-w.ensures
+    }
