@@ -1,6 +1,8 @@
 // The paper's listing program, run on one byte more than it takes.
 #![tactic(auto)]
 
-fn main() {
-    lister::list_input();
+use std::io;
+
+fn main(rt: HostRuntime) -> io::Result<()> {
+    lister::list_input(&mut rt.stdin(), &mut rt.stdout())
 }

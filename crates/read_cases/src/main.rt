@@ -1,36 +1,49 @@
 // Lists many documents, each behind two bytes that are its length, low byte first.
 #![tactic(auto)]
 
+use line::input::read_full;
+use std::io;
+use std::io::{Read, Write};
+
 // One document, or false at the end of the input.
-fn one() -> bool {
+fn one<R: Read, W: Write>(input: &mut R, output: &mut W) -> io::Result<bool> {
     let mut length = [0u8; 2];
-    let got = io::read_full(0, &mut length);
+    let got = read_full(input, &mut length)?;
     if got < 2 {
-        return false;
+        return Ok(false);
     }
     let size = feed::number(&length, 0, 2) as usize;
-    let mut input = io::large_buffer();
-    list_sized(&mut input, size)
+    let mut document = [0u8; 65536];
+    list_sized(&mut document, size, input, output)
 }
 
 // A document of `size` bytes.
-fn list_sized(input: &mut [u8], size: usize) -> bool {
-    if input.len() < size {
-        return false;
+fn list_sized<R: Read, W: Write>(
+    document: &mut [u8],
+    size: usize,
+    input: &mut R,
+    output: &mut W,
+) -> io::Result<bool> {
+    if document.len() < size {
+        return Ok(false);
     }
-    let part = &mut input[..size];
-    let got = io::read_full(0, part);
+    let part = &mut document[..size];
+    let got = read_full(input, part)?;
     if got < size {
-        return false;
+        return Ok(false);
     }
-    lister::list(part);
-    true
+    lister::list(part, output)?;
+    Ok(true)
 }
 
-// Nothing says that the input ends, so the documents are counted down from more than there can be.
-fn main() {
-    let mut left = u64::MAX;
-    while left > 0 && one() {
-        left -= 1;
+// Nothing says that the input ends, so the documents are counted up to more than there can be.
+fn main(rt: HostRuntime) -> io::Result<()> {
+    let mut input = rt.stdin();
+    let mut output = rt.stdout();
+    for _ in 0..u64::MAX {
+        if !one(&mut input, &mut output)? {
+            break;
+        }
     }
+    Ok(())
 }

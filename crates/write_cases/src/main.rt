@@ -3,19 +3,19 @@
 #![tactic(auto)]
 
 ghost use Rattle.std.specs.Prelude.{◌+◌, ◌*◌, ◌<◌, ◌≤◌, length};
-ghost use Rattle.io.specs.Counts.{IsPrefixLen};
+ghost use Rattle.line.specs.Counts.{IsPrefixLen};
 
-use libc::STDOUT_FILENO;
+use line::input::read_full;
+use std::io;
+use std::io::{Read, Write};
 use writer::Written;
 
 // What an output holds before anything is written to it: 165, and then always 7 more, so that bytes left alone are known.
 fn mark(out: &mut [u8]) {
-    let mut b = 165;
-    let mut i = 0;
-    while i < out.len() {
-        out[i] = b;
-        b = std::num::wrapping_add_u8(b, 7);
-        i += 1;
+    let mut b = 165u8;
+    for slot in out.iter_mut() {
+        *slot = b;
+        b = b.wrapping_add(7);
     }
 }
 
@@ -29,11 +29,9 @@ fn number(b: u8) -> u64
 fn checksum(s: &[u8]) -> u64 {
     let mut a = 1;
     let mut b = 0;
-    let mut i = 0;
-    while i < s.len() {
-        a = (a + number(s[i])) % 65521;
+    for c in s {
+        a = (a + number(*c)) % 65521;
         b = (b + a) % 65521;
-        i += 1;
     }
     65536 * b + a
 }
@@ -46,7 +44,7 @@ fn shown(out: &[u8]) -> usize
 }
 
 // The paper's number, the number beside it, the checksum of the whole output, and its first bytes.
-fn show(r: Written, out: &[u8]) {
+fn show<W: Write>(r: Written, out: &[u8], output: &mut W) -> io::Result<()> {
     let mut text = [0u8; 256];
     let mut end = line::decimal(&mut text, 0, r.number() as u64);
     end = line::byte(&mut text, end, b' ');
@@ -57,73 +55,97 @@ fn show(r: Written, out: &[u8]) {
     let first = shown(out);
     end = line::pairs(&mut text, end, &out[..first]);
     end = line::byte(&mut text, end, b'\n');
-    io::write_all(STDOUT_FILENO, &text[..end]);
+    output.write_all(&text[..end])
 }
 
 // A table of that many words, with its data behind it; false if it has more than 4,096.
-fn write(words: usize, n: usize, s: &[u8], out: &mut [u8]) -> bool
+fn write<W: Write>(
+    words: usize,
+    n: usize,
+    s: &[u8],
+    out: &mut [u8],
+    output: &mut W,
+) -> io::Result<bool>
     requires { 4 * words ≤ length s.now }
 {
     let mut table = [0u32; 4096];
     if table.len() < words {
-        return false;
+        return Ok(false);
     }
     feed::fill(&mut table, words, s);
     let front = 4 * words;
     mark(out);
     let r = writer::write(&table[..words], n, &s[front..], out);
-    show(r, out);
-    true
+    show(r, out, output)?;
+    Ok(true)
 }
 
 // The same from the input.
-fn write_sized(words: usize, n: usize, size: usize, out: &mut [u8]) -> bool
+fn write_sized<R: Read, W: Write>(
+    words: usize,
+    n: usize,
+    size: usize,
+    out: &mut [u8],
+    input: &mut R,
+    output: &mut W,
+) -> io::Result<bool>
     requires words_bound { words < 65536 }
     requires size_bound { size < 65536 }
 {
-    let mut input = [0u8; 81920];
+    let mut buf = [0u8; 81920];
     let length = 4 * words + size;
-    if input.len() < length {
-        return false;
+    if buf.len() < length {
+        return Ok(false);
     }
-    let part = &mut input[..length];
-    let got = io::read_full(0, part);
+    let part = &mut buf[..length];
+    let got = read_full(input, part)?;
     if got < length {
-        return false;
+        return Ok(false);
     }
-    write(words, n, part, out)
+    write(words, n, part, out, output)
 }
 
 // The same with so much room.
-fn write_into(words: usize, n: usize, size: usize, room: usize) -> bool
+fn write_into<R: Read, W: Write>(
+    words: usize,
+    n: usize,
+    size: usize,
+    room: usize,
+    input: &mut R,
+    output: &mut W,
+) -> io::Result<bool>
     requires words_bound { words < 65536 }
     requires size_bound { size < 65536 }
 {
     let mut out = [0u8; 163840];
     if out.len() < room {
-        return false;
+        return Ok(false);
     }
-    write_sized(words, n, size, &mut out[..room])
+    write_sized(words, n, size, &mut out[..room], input, output)
 }
 
 // One table, or false at the end of the input.
-fn one() -> bool {
+fn one<R: Read, W: Write>(input: &mut R, output: &mut W) -> io::Result<bool> {
     let mut front = [0u8; 12];
-    let got = io::read_full(0, &mut front);
+    let got = read_full(input, &mut front)?;
     if got < 12 {
-        return false;
+        return Ok(false);
     }
     let words = feed::number(&front, 0, 2) as usize;
     let n = feed::number(&front, 2, 4) as usize;
     let size = feed::number(&front, 6, 2) as usize;
     let room = feed::number(&front, 8, 4) as usize;
-    write_into(words, n, size, room)
+    write_into(words, n, size, room, input, output)
 }
 
-// Nothing says that the input ends, so the tables are counted down from more than there can be.
-fn main() {
-    let mut left = u64::MAX;
-    while left > 0 && one() {
-        left -= 1;
+// Nothing says that the input ends, so the tables are counted up to more than there can be.
+fn main(rt: HostRuntime) -> io::Result<()> {
+    let mut input = rt.stdin();
+    let mut output = rt.stdout();
+    for _ in 0..u64::MAX {
+        if !one(&mut input, &mut output)? {
+            break;
+        }
     }
+    Ok(())
 }
