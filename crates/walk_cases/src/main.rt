@@ -85,7 +85,13 @@ fn ask<W: Write>(
 }
 
 // Each ask in turn.
-fn each<W: Write>(table: &[u32], n: usize, data: &[u8], asks: &[u8], output: &mut W) -> io::Result<()> {
+fn each<W: Write>(
+    table: &[u32],
+    n: usize,
+    data: &[u8],
+    asks: &[u8],
+    output: &mut W,
+) -> io::Result<()> {
     let mut left = asks.len();
     while 9 <= left {
         let at = asks.len() - left;
