@@ -1,7 +1,7 @@
 // The listing of a document, as the paper's program prints it.
 #![tactic(auto)]
 
-use line::input;
+use line::input::read_full;
 use rows::Row;
 use std::io;
 use std::io::{Read, Write};
@@ -71,7 +71,7 @@ pub fn list<W: Write>(document: &[u8], output: &mut W) -> io::Result<()> {
 // The paper's listing program: a document of up to 16,384 bytes from the input.
 pub fn list_input<R: Read, W: Write>(input: &mut R, output: &mut W) -> io::Result<()> {
     let mut document = [0u8; 16385];
-    let n = input::read_full(input, &mut document)?;
+    let n = read_full(input, &mut document)?;
     if 16384 < n {
         return output.write_all(b"input too long\n");
     }
