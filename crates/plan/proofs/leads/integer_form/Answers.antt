@@ -3,8 +3,7 @@ use Prim.Native.Nat.{◌+◌, ◌≤◌, ◌<◌}
 use native.Mathlib.Omega.{arith}
 use borrow.Author.Rules.{rules}
 use Rattle.plan.proofs.Plans.{small-form, integer-rank, long-form, first_byte, size-short}
-use Rattle.plan.proofs.leads.integer_form.Statement.{statement}
-use Rattle.plan.proofs.leads.integer_form.Tie as tie
+use Rattle.plan.proofs.leads.integer_form.Goals as goal
 
 small : (c : tie.After-rank-of) → c.rank-of.result < 8
 small c =
@@ -17,18 +16,20 @@ size c = size-short c.before.rank-of.result c.size-at.result c.size-at.ensures (
 lead : (c : tie.After-integer-first) → c.integer-first.result + c.before.before.rank-of.result < 256
 lead c = first_byte c.before.before.before.before.before.args.signed c.integer-first.result c.before.before.rank-of.result c.integer-first.ensures (small c.before.before)
 
-pub integer-form-spec : {M : Type 1} → statement M
-integer-form-spec =
-    tie.close
-    (tie.spec
-    (λ c κs. search rules)
-    (λ c. search rules)
-    (λ c κs. search rules)
-    (λ c. search (small-form, rules))
-    (λ c κs. search rules)
-    (λ c κs. small c)
-    (λ c. omega (arith, size c))
-    (λ c κs. search rules)
-    (λ c. omega (arith, lead c))
-    (λ c. omega (arith, lead c, size c.before))
-    (λ c. search (long-form, rules)))
+pub returns-then-is_small : goal.returns-then-is_small
+returns-then-is_small c = search (small-form, rules)
+
+pub size_at-requires : goal.size_at-requires
+size_at-requires c = small c
+
+pub overflow_mul-result : goal.overflow_mul-result
+overflow_mul-result c = omega (arith, size c)
+
+pub overflow_add-result : goal.overflow_add-result
+overflow_add-result c = omega (arith, lead c)
+
+pub overflow_add-result-2 : goal.overflow_add-result-2
+overflow_add-result-2 c = omega (arith, lead c, size c.before)
+
+pub returns : goal.returns
+returns c = search (long-form, rules)
