@@ -115,7 +115,8 @@ def main(argv):
     pages = [os.path.join(root, p) for p in ("README.md",)] + list(files(root, ".md", "docs"))
     for p in list(files(root, (".antt", ".rt"))) + [p for p in pages if os.path.basename(p) != "LANDINGS.md"]:
         t = read(p)
-        u = turned(t, new, p.endswith(".md"))
+        # a lemma that gives way to a definition is named in proofs alone: elsewhere the name is a function's
+        u = turned(t, new if p.endswith(".antt") else {n: v for n, v in new.items() if v != n + "_lem"}, p.endswith(".md"))
         if u != t:
             with open(p, "w", encoding="utf-8") as f:
                 f.write(u)

@@ -27,7 +27,7 @@ pub fn ends_at(end: u32, g: Extent) -> Extent
 }
 
 // A record's key, by its words.
-fn key_row_lem(s: &[u8], row: usize, w: Row) -> Extent
+fn key_row(s: &[u8], row: usize, w: Row) -> Extent
     requires { row < limit }
     ensures { result ≡ extent_of (key_row s.now row w) }
 {
@@ -46,7 +46,7 @@ pub fn check_key(table: &[u32], n: usize, s: &[u8], row: usize) -> Extent
     ensures { result ≡ extent_of (grow_key table.now n s.now row) }
 {
     if row < n {
-        return key_row_lem(s, row, rows::row_at(table, row));
+        return key_row(s, row, rows::row_at(table, row));
     }
     Extent::Broken
 }

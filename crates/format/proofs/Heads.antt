@@ -346,10 +346,10 @@ module _ (F : Family) (s : List ℕ) (at stop : ℕ) (c : Count) (count : c ≡ 
   count_at_lem = subst (Counted at stop) (sym count ∙ said) (counted F s at stop)
 
   pub count_within : next ≤ stop
-  count_within = count_at.within
+  count_within = count_at_lem.within
 
   pub count-few : n ≤ limit
-  count-few = count_at.few
+  count-few = count_at_lem.few
 
 -- ---- h is what stands at `at`
 

@@ -78,17 +78,17 @@ mutual
 -- ---- a tree's own row, and the rest
 
 -- what a tree's own row says, where `registry` has the rows of the entries in force
-abbrev pub field_own : Tree → List ℕ → Own
-field_own (leaf o) registry = o
-field_own (refer o) registry = aimed o (get_or registry o.w0 0)
-field_own (hold o ts) registry = o
-field_own (declare o es t) registry = o
-field_own (foreign o t) registry = o
-field_own (damaged o) registry = o
+abbrev pub own_at : Tree → List ℕ → Own
+own_at (leaf o) registry = o
+own_at (refer o) registry = aimed o (get_or registry o.w0 0)
+own_at (hold o ts) registry = o
+own_at (declare o es t) registry = o
+own_at (foreign o t) registry = o
+own_at (damaged o) registry = o
 
 -- the row itself: it ends behind all the tree's rows
 abbrev pub top_row : Tree → ℕ → List ℕ → Row
-top_row t row registry = row_of (field_own t registry) (row + size t)
+top_row t row registry = row_of (own_at t registry) (row + size t)
 
 -- the words of its children's rows
 abbrev pub below : Tree → ℕ → List ℕ → List ℕ

@@ -102,7 +102,7 @@ pub fn char_head(s: &[u8], at: usize, stop: usize) -> Head
 }
 
 // The sizes of floats, by their markers 03 to 07.
-pub fn float_size_lem(b: usize) -> usize
+pub fn float_size(b: usize) -> usize
     requires { (3 ≤ b) × (b < 8) }
     ensures { result ≡ float_size b }
 {

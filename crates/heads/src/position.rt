@@ -3,7 +3,7 @@ ghost use Rattle.std.specs.Prelude.{◌≡◌, ◌≤◌, ◌<◌, length, get_o
 ghost use Rattle.format.specs.Head.{integer_head, special_head, head_at};
 
 use crate::behind;
-use crate::body::{bodied, char_head, float_size_lem, text_body};
+use crate::body::{bodied, char_head, float_size, text_body};
 use crate::count::index;
 use format::{Content, Head, Holder, Refusal};
 use rows::Row;
@@ -94,7 +94,7 @@ fn low(s: &[u8], at: usize, stop: usize, b: usize) -> Head
         };
     }
     if b < 8 {
-        let size = float_size_lem(b);
+        let size = float_size(b);
         let content = Content::Span {
             kind: Row::FLOAT,
             place: next,
