@@ -2,7 +2,8 @@
 -- level the way from a row to its children to one child. A law of Checks answers each way out. Assumes nothing.
 use Prim.Native.Nat.{◌-◌}
 use borrow.Author.Rules.{rules}
-use Rattle.checker.proofs.Checks.{alone-fits, child-alone, child_asks, child_key, child-value, ready_few, ready_room, value_deep, value-based, value_in, value_out}
+use Rattle.checker.proofs.Checks.{alone-fits, child-alone, child_asks, child-based, child_key, child-value, damaged-inside, declared_broken, declared_until, entries_ask, entries-based, going_all, going_first, going_next, going_broken, going_ready, hold_asks, hold-based, own_asks, own-based, own_under, row-bad, row-damaged, row-declare, row-hold, row-leaf, row-refer, row-whole, ready_few, ready_lent, ready_room, value_deep, value-based, value_in, value_out, under, whole-few}
+use Rattle.registry.proofs.Walks.{based_fewer}
 use Rattle.checker.proofs.value.+checking.Goals as goal
 
 pub check_child-returns-then-is_key : goal.check_child-returns-then-is_key
@@ -22,6 +23,69 @@ check_child-check_value-requires t c = (search rules, (search child_asks, search
 
 pub check_child-returns : goal.check_child-returns
 check_child-returns t c = search child-value
+
+pub check_children-loop-i-init : goal.check_children-loop-i-init
+check_children-loop-i-init t c = search going_first
+
+pub check_children-check_child-g-requires : goal.check_children-check_child-g-requires
+check_children-check_child-g-requires t c = (search rules, (search going_ready, search child-based, search rules))
+
+pub check_children-loop-i-preserved : goal.check_children-loop-i-preserved
+check_children-loop-i-preserved t c = search going_next
+
+pub check_children-returns-in-Broken : goal.check_children-returns-in-Broken
+check_children-returns-in-Broken t c = search going_broken
+
+pub check_children-returns : goal.check_children-returns
+check_children-returns t c = search going_all
+
+pub check_declared-check_children-es-requires : goal.check_declared-check_children-es-requires
+check_declared-check_children-es-requires t c = (search rules, (search entries_ask, search entries-based, search rules))
+
+pub check_declared-base_of-inside-requires : goal.check_declared-base_of-inside-requires
+check_declared-base_of-inside-requires t c = (search rules, search own_under)
+
+pub check_declared-check_value-requires : goal.check_declared-check_value-requires
+check_declared-check_value-requires t c = (search rules, (search own_asks, search own-based, search rules))
+
+pub check_declared-returns-in-Until : goal.check_declared-returns-in-Until
+check_declared-returns-in-Until t c = search declared_until
+
+pub check_declared-returns-in-Broken : goal.check_declared-returns-in-Broken
+check_declared-returns-in-Broken t c = search declared_broken
+
+pub check_row-check_reference-requires : goal.check_row-check_reference-requires
+check_row-check_reference-requires t c = (search ready_lent, search rules, search rules, search rules)
+
+pub check_row-check_children-requires : goal.check_row-check_children-requires
+check_row-check_children-requires t c = (search rules, (search hold_asks, search hold-based, search rules))
+
+pub check_row-check_value-requires : goal.check_row-check_value-requires
+check_row-check_value-requires t c = (search rules, (search (under, whole-few, rules), search (based_fewer, whole-few, rules), search rules))
+
+pub check_row-check_damaged-requires : goal.check_row-check_damaged-requires
+check_row-check_damaged-requires t c = (search rules, search damaged-inside, search rules)
+
+pub check_row-returns-in-Bad : goal.check_row-returns-in-Bad
+check_row-returns-in-Bad t c = search row-bad
+
+pub check_row-returns-in-Leaf : goal.check_row-returns-in-Leaf
+check_row-returns-in-Leaf t c = search row-leaf
+
+pub check_row-returns-in-Refer : goal.check_row-returns-in-Refer
+check_row-returns-in-Refer t c = search row-refer
+
+pub check_row-returns-in-Hold : goal.check_row-returns-in-Hold
+check_row-returns-in-Hold t c = search row-hold
+
+pub check_row-returns-in-Declare : goal.check_row-returns-in-Declare
+check_row-returns-in-Declare t c = search row-declare
+
+pub check_row-returns-in-Whole : goal.check_row-returns-in-Whole
+check_row-returns-in-Whole t c = search row-whole
+
+pub check_row-returns-in-Damaged : goal.check_row-returns-in-Damaged
+check_row-returns-in-Damaged t c = search row-damaged
 
 pub check_value-returns-then-levels-eq0 : goal.check_value-returns-then-levels-eq0
 check_value-returns-then-levels-eq0 t c = search value_deep

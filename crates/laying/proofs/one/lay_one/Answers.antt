@@ -11,7 +11,12 @@ pub returns-then-is_key : goal.returns-then-is_key
 returns-then-is_key c = search child_key_tried
 
 pub lay_plain-next-requires : goal.lay_plain-next-requires
-lay_plain-next-requires c = (search child_known, ((search child_there, search rules, search rules), (search ready_lent, search ready_low)))
+lay_plain-next-requires c =
+    record {
+      known = search child_known;
+      at_lt_stop = (search child_there, search rules, search rules);
+      row_bound = (search ready_lent, search ready_low);
+    }
 
 pub lay_marked-requires : goal.lay_marked-requires
 lay_marked-requires c = record { ready = search child-value; at_lt_stop = (search child_there, search rules, search rules) }
