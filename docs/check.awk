@@ -66,11 +66,11 @@ function placed(name, slash, rest, dot) {
     return (from, rest) in edit
 }
 
-# File.name of any crate; many crates have a Contracts, and that is the one of the section's crate
+# File.name of any crate; many crates have an Inner, and that is the one of the section's crate
 function spelled(name, dot, c) {
     dot = index(name, ".")
     within = substr(name, 1, dot - 1)
-    from = within == "Contracts" ? section : ""
+    from = within == "Inner" ? section : ""
     how = "file"
     if (from != "")
         return (from, within, substr(name, dot + 1)) in has
@@ -126,8 +126,8 @@ function names(text, n, i, part, between) {
         wrong("a backtick without its other one")
         return
     }
-    if (FILENAME ~ /LANDINGS|^bench|^tests/)
-        return # LANDINGS names what is gone, too, and these name parts of other programs
+    if (FILENAME ~ /LANDINGS|PORT|^bench|^tests/)
+        return # LANDINGS and PORT name what is gone, too, and these name parts of other programs
     for (i = 2; i <= n; i += 2) {
         between = part[i - 1]
         parentheses(between)
@@ -356,7 +356,7 @@ END {
     for (p in public)
         promised("function", p)
     for (f in file)
-        if (f ~ /^crates\/[^\/]*\/specs\/.*\.antt$/ && f !~ /\/(Lib|Contracts)\.antt$/) {
+        if (f ~ /^crates\/[^\/]*\/specs\/.*\.antt$/ && f !~ /\/(Lib|Inner)\.antt$/) {
             sub(/^crates\//, "", f)
             if (!(("docs/TRUST.md", "The definitions", f) in cited)) {
                 print "docs/TRUST.md: the table of definitions has no `" f "`"

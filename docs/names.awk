@@ -20,12 +20,16 @@ rattle {
         tell(name)
         line = substr(line, RSTART + RLENGTH)
     }
-    if (match($0, /^pub use .*::[A-Za-z_]+;/)) {
-        name = substr($0, 1, RLENGTH - 1)
-        sub(/.*::/, "", name)
-        tell(name)
-        if (file == "lib" && name ~ /^[a-z]/)
-            print "public " crate " " name
+    if (/^pub use .*::/) {
+        list = $0
+        sub(/.*::/, "", list)
+        gsub(/[{};,]/, " ", list)
+        n = split(list, word, " ")
+        for (i = 1; i <= n; i++) {
+            tell(word[i])
+            if (file == "lib" && word[i] ~ /^[a-z]/)
+                print "public " crate " " word[i]
+        }
     }
     if (file == "lib" && match($0, /^pub mod [a-z_]+;/))
         open[crate, substr($0, 9, RLENGTH - 9)]
@@ -48,7 +52,7 @@ rattle {
 }
 
 # what the kit lends
-/^use (Prim|mathlib|native|lib|borrow|denote)\./ {
+/^use (Prim|mathlib|native|lib|borrow|denote|mir|Rattle\.(core|io|std[a-z_]*))\./ {
     list = $0
     if (sub(/.*\{/, "", list) && sub(/\}.*/, "", list)) {
         n = split(list, word, /, /)
