@@ -6,7 +6,6 @@ use Rattle.payload.proofs.has_payload.Goals as goal
 
 ruleset tests = (eq-eqb, ne_eqb)
 
-
 pub returns-then-kind-eq-FLOAT : goal.returns-then-kind-eq-FLOAT
 unfolding has_payload
 returns-then-kind-eq-FLOAT c = search (rules, tests)

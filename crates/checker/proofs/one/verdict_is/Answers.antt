@@ -5,7 +5,6 @@ use Rattle.checker.proofs.one.verdict_is.Goals as goal
 
 ruleset tests = (eq-eqb, ne_eqb)
 
-
 pub returns-then-w-number : goal.returns-then-w-number
 returns-then-w-number c = search (rules, tests)
 

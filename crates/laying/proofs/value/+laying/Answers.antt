@@ -120,7 +120,7 @@ pub lay_right-returns : goal.lay_right-returns
 lay_right-returns t c = let a = c.args in let p = c.requires in let i = c.in_foreign-inside in let v = c.lay_value-f in lays.right_done a.s.now a.levels a.around a.place a.size a.doubt a.table.now a.row a.base p.ready i.result i.ensures p.right v.new.table v.result v.ensures c.row_in-last.result c.row_in-last.ensures c.foreign.result c.lay.new.table c.foreign.ensures c.lay.ensures
 
 pub lay_value-lay_plain-next-requires : goal.lay_value-lay_plain-next-requires
-lay_value-lay_plain-next-requires t c = 
+lay_value-lay_plain-next-requires t c =
     record {
       known = search lays.head_known;
       at_lt_stop = (search lays.head_there, search rules, search rules);

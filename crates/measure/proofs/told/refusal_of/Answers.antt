@@ -6,7 +6,6 @@ use Rattle.measure.proofs.told.refusal_of.Goals as goal
 
 ruleset tests = (eq-eqb, ne_eqb)
 
-
 pub returns-then-n-eq2 : goal.returns-then-n-eq2
 unfolding refusal_of
 returns-then-n-eq2 c = search (rules, tests)

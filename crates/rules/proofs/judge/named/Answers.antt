@@ -6,7 +6,6 @@ use Rattle.rules.proofs.judge.named.Goals as goal
 
 ruleset tests = (eq-eqb, ne_eqb)
 
-
 pub returns-then-kind-eq-FALSE : goal.returns-then-kind-eq-FALSE
 unfolding named
 returns-then-kind-eq-FALSE c = search (rules, tests)

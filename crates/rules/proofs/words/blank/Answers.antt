@@ -6,7 +6,6 @@ use Rattle.rules.proofs.words.blank.Goals as goal
 
 ruleset tests = (eq-eqb, ne_eqb)
 
-
 pub returns-then-a-ne0 : goal.returns-then-a-ne0
 unfolding blank
 returns-then-a-ne0 c = search (rules, tests)

@@ -6,7 +6,6 @@ use Rattle.rules.proofs.words.is_float_size.Goals as goal
 
 ruleset tests = (eq-eqb, ne_eqb)
 
-
 pub returns-then-n-eq2 : goal.returns-then-n-eq2
 unfolding one_of
 returns-then-n-eq2 c = search (rules, tests)

@@ -6,7 +6,6 @@ use Rattle.text.proofs.lines.lead_of.Goals as goal
 
 ruleset lines = (by_test, this_byte, other_byte)
 
-
 pub returns-then-is_plain : goal.returns-then-is_plain
 returns-then-is_plain c = lead_at 0 _ _ (search (lines, rules) depth 14) (search rules)
 

@@ -37,7 +37,7 @@ returns-then-is_direct c =
     let a = c.args in
     let h : Words a.w = search rules in
     let one =
-        form-one a.signed (value_of a.w) (value_lt a.w h) c.is_direct.result c.low.result c.is_direct.ensures c.if-is_direct.true c.low.ensures
+    form-one a.signed (value_of a.w) (value_lt a.w h) c.is_direct.result c.low.result c.is_direct.ensures c.if-is_direct.true c.low.ensures
     in
     let r = wrote_one (form (variable a.signed) (value_of a.w)) a.out.now c.low.result one c.if-out-lt1.false in
     record { value = r.0; out_after = r.1 }
@@ -59,8 +59,8 @@ returns-then-out-need c =
     let h : Words a.w = search rules in
     let f = form (variable a.signed) (value_of a.w) in
     let long =
-        form-long a.signed (value_of a.w) (value_lt a.w h) c.is_direct.result c.rank_of-rank.result c.size_at-size.result _ c.is_direct.ensures
-        c.if-is_direct.false c.rank_of-rank.ensures c.size_at-size.ensures refl
+    form-long a.signed (value_of a.w) (value_lt a.w h) c.is_direct.result c.rank_of-rank.result c.size_at-size.result _ c.is_direct.ensures
+    c.if-is_direct.false c.rank_of-rank.ensures c.size_at-size.ensures refl
     in
     let r = no_room f a.out.now (c.size_at-size.result + 1) (long-length f _ c.size_at-size.result (value_of a.w) long) c.if-out-need.true in
     record { value = r.0; out_after = r.1 }
@@ -89,8 +89,8 @@ returns c =
     let h : Words a.w = search rules in
     let f = form (variable a.signed) (value_of a.w) in
     let long =
-        form-long a.signed (value_of a.w) (value_lt a.w h) c.is_direct.result c.rank_of-rank.result c.size_at-size.result c.first_of.result
-        c.is_direct.ensures c.if-is_direct.false c.rank_of-rank.ensures c.size_at-size.ensures c.first_of.ensures
+    form-long a.signed (value_of a.w) (value_lt a.w h) c.is_direct.result c.rank_of-rank.result c.size_at-size.result c.first_of.result
+    c.is_direct.ensures c.if-is_direct.false c.rank_of-rank.ensures c.size_at-size.ensures c.first_of.ensures
     in
     let r = wrote_long f a.out.now _ _ c.size_at-size.result (value_of a.w) long c.if-out-need.false c.write_body.ensures in
     record { value = r.0; out_after = r.1 }
