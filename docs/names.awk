@@ -38,6 +38,14 @@ rattle {
         sub(/.* /, "", name)
         shown[crate, file, name]
     }
+    if (/^use std::/ || /HostRuntime/) { # what the kit lends
+        list = $0
+        sub(/.*::/, "", list)
+        gsub(/[{};,]/, " ", list)
+        n = split(/^use/ ? list : "HostRuntime", word, " ")
+        for (i = 1; i <= n; i++)
+            print "name kit kit " word[i]
+    }
     line = $0
     while (match(line, /[A-Za-z_][A-Za-z0-9_]*:/)) {
         tell(substr(line, RSTART, RLENGTH - 1))
