@@ -1,6 +1,6 @@
 -- The rows of a tree. Assumes nothing: these are definitions.
 use Rattle.std.specs.Prelude.{ℕ, ◌+◌, Bool, true, false, List, [], ◌∷◌, ◌++◌, length, get_or, take}
-use Rattle.rows.specs.Table.{Own, row_of, aimed, words_of}
+use Rattle.rows.specs.Table.{row_of, aimed, words_of}
 use Rattle.format.specs.declared.head.Children.{Children}
 use Rattle.format.specs.declared.head.Children.TheVariants.{Plain, Keyed, Entries}
 use Rattle.format.specs.Tree.{Tree, leaf, refer, hold, declare, foreign, damaged, Trees, none, more, size, sizes}

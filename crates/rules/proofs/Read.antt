@@ -16,7 +16,6 @@ use Rattle.wide.proofs.Ranks.{bool_case}
 use Rattle.wide.proofs.Runs.{number_has, bytes_whole}
 use Rattle.wide.proofs.Nearness.{behind_up, behind_zero, value_rest, has_wide}
 use Rattle.wide.proofs.Sound.{sound_integers}
-use Rattle.text.specs.declared.answer.Text.{Text}
 use Rattle.text.specs.declared.answer.Text.TheVariants.{WellFormed}
 use Rattle.text.specs.Check.{text_of}
 use Rattle.rows.specs.Kinds.{kind_small, kind_signed, kind_unsigned, kind_float, kind_text, kind_binary, kind_key, constant_own, span_own, holder_own, char_own, foreign_own, damaged_own}

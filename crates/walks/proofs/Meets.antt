@@ -10,7 +10,6 @@ use borrow.Author.Tests.{lt-ltb, le-leb, eqb-true}
 use Rattle.wide.proofs.Ranks.{bool_case}
 use Rattle.rows.specs.Table.{Own, lent, aimed}
 use Rattle.rows.specs.Kinds.{kind_float, kind_text, kind_binary, kind_key}
-use Rattle.lists.proofs.Tests.{and_second}
 use Rattle.format.specs.Tree.{Tree, leaf, refer, hold, declare, foreign, damaged, size}
 use Rattle.format.proofs.Layouts.{own_at}
 use Rattle.rules.specs.declared.shape.Shape.{Shape}

@@ -1,5 +1,4 @@
 -- `feed::fill` meets its contract. The invariant: filling what is left, from word `i` on, gives what filling the whole gives. Assumes nothing.
-use Prim.Native.Nat.{◌-◌}
 use Rattle.feed.proofs.Words.{fill_first, fill_next, fill_last}
 use Rattle.feed.proofs.fill.Goals as goal
 

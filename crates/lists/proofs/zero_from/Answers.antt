@@ -1,6 +1,5 @@
 -- `lists::zero_from` meets its contract. The invariant: zeroing what is left, from `i` on, gives what zeroing the whole gives. Assumes nothing.
 use mathlib.Core.Path.{refl, sym, ap, ◌∙◌}
-use Prim.Native.Nat.{◌-◌}
 use native.Mathlib.Omega.{arith}
 use lib.ListN.{length, length-set}
 use Rattle.lists.proofs.Zeros.{length-zeroed, zeroed_out, zeroed-set}

@@ -1,5 +1,4 @@
 -- `registry::entry_row` meets its contract. The invariant: `at` is the row that i ends lead to. Assumes nothing.
-use Prim.Native.Nat.{◌-◌}
 use borrow.Author.Rules.{rules}
 use Rattle.registry.proofs.Walks.{walk_start, walk-next, walk_done, walk-lent}
 use Rattle.registry.proofs.entry_row.Goals as goal

@@ -1,5 +1,4 @@
 -- `resolve::resolve` meets its contract. Assumes nothing.
-use Prim.Native.Nat.{◌-◌}
 use Rattle.resolve.proofs.Moving.{few-lent, chasing_first, chasing_stop, chasing_next, chasing_broken, chasing_all, stop_lent}
 use Rattle.resolve.proofs.resolve.Goals as goal
 

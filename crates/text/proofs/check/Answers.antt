@@ -1,6 +1,5 @@
 -- `text::check` meets its contract: before each sequence the walk from there on gives the answer for the whole (Reached); before each
 -- continuation byte the sequence stands exactly when what is left of it fits (Passing). Assumes nothing.
-use Prim.Native.Nat.{◌-◌}
 use borrow.Author.Rules.{rules}
 use borrow.Author.Tests.{not-true, not-false}
 use Rattle.text.proofs.Steps.{start, at_end, passed_plain, no_lead, lead, cut, turn, outside, whole}

@@ -1,6 +1,5 @@
 -- `writer::write_within` meets its contract. Assumes nothing.
 use borrow.Author.Rules.{rules}
-use Rattle.rules.specs.Grow.{rules_hold}
 use Rattle.writer.proofs.Asks.{checked_yes, checked_no, yes_spelt, too_large, no_room, yes_fits, done, bad-table}
 use Rattle.writer.proofs.write_within.Goals as goal
 

@@ -1,6 +1,5 @@
 -- `checker::value`: check_value, check_child and the functions between them meet their contracts. The measure is the levels left, and within a
 -- level the way from a row to its children to one child. A law of Checks answers each way out. Assumes nothing.
-use Prim.Native.Nat.{◌-◌}
 use borrow.Author.Rules.{rules}
 use Rattle.checker.proofs.Checks.{alone-fits, child-alone, child_asks, child-based, child_key, child-value, damaged-inside, declared_broken, declared_until, entries_ask, entries-based, going_all, going_first, going_next, going_broken, going_ready, hold_asks, hold-based, own_asks, own-based, own_under, row-bad, row-damaged, row-declare, row-hold, row-leaf, row-refer, row-whole, ready_few, ready_lent, ready_room, value_deep, value-based, value_in, value_out, under, whole-few}
 use Rattle.registry.proofs.Walks.{based_fewer}

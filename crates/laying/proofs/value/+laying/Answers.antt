@@ -1,6 +1,5 @@
 -- `laying::value`: lay_value, lay_children and the functions between them meet their contracts. The measure is the levels left, as in measuring.
 -- A law of Lays, Steps or Children answers each way out. Assumes nothing.
-use Prim.Native.Nat.{◌-◌}
 use borrow.Author.Rules.{rules}
 use Rattle.format.proofs.Heads.{hold-few, hold_within, declare-few, declare_within}
 use Rattle.laying.proofs.Children as children

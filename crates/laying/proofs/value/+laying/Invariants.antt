@@ -2,7 +2,6 @@
 -- A law of Lays, Steps or Children answers each way out. Assumes nothing.
 use Prim.Native.Nat.{◌+◌, ◌*◌, ◌-◌}
 use Rattle.laying.proofs.Children.{Laying}
-use Rattle.laying.proofs.Children as children
 use Rattle.laying.proofs.value.+laying.Given as goal
 
 abbrev pub decreases-lay_at : goal.decreases-lay_at

@@ -1,5 +1,4 @@
 -- `leaves::plain::lay_plain` meets its contract: a law of Straight for each way out. Assumes nothing.
-use borrow.Author.Rules.{rules}
 use Rattle.leaves.proofs.Straight.{binary-head, constant_head, kept, known_as, long-text_head, signed_head, small_head, text_head_lem, tried, unsigned_head}
 use Rattle.leaves.proofs.plain.lay_plain.Goals as goal
 

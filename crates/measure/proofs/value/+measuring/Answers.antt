@@ -1,6 +1,5 @@
 -- `measure::value`: measure_value, measure_child and the functions between them meet their contracts. The measure is the levels left, and within a
 -- level the way from a holder to its children to one child. A law of Measures answers each way out. Assumes nothing.
-use Prim.Native.Nat.{◌-◌}
 use borrow.Author.Rules.{rules}
 use Rattle.format.proofs.Heads.{declare_within, hold-few, hold_within}
 use Rattle.measure.proofs.Measures.{all_fit, child_key, child-value, children-low, children_stop, declare-few, declare-low, declare_pos, declare-right, declare-wrong, entry-wrong, foreign-inside, foreign_pos, frame_few, frame_right, frame_wrong, hold_pos, hold-right, hold-wrong, holder_few, kept-all, kept-few, kept-first, kept-fits, kept_low, kept_next, kept-one, kept_plus, kept-wrong, leaf-low, refer-low, refuse_low, row_fits, rows_fit, value-declare, value_deep, value-foreign, value-hold, value-leaf, value_no_entry, value-refer, value_refuse}

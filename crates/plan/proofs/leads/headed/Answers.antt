@@ -1,6 +1,5 @@
 -- `plan::leads::headed` meets its contract. Assumes nothing.
 use Rattle.plan.proofs.Plans.{from_low, lead_byte, alone_plan, direct_plan, rank-small, body_plan}
-use Prim.Native.Nat.{◌+◌, ◌-◌, ◌<◌}
 use native.Mathlib.Omega.{arith}
 use borrow.Author.Rules.{rules}
 use Rattle.plan.proofs.leads.headed.Goals as goal

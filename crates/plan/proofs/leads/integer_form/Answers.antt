@@ -1,5 +1,4 @@
 -- `plan::leads::integer_form` meets its contract. Assumes nothing.
-use Prim.Native.Nat.{◌+◌, ◌≤◌, ◌<◌}
 use native.Mathlib.Omega.{arith}
 use borrow.Author.Rules.{rules}
 use Rattle.plan.proofs.Plans.{small-form, integer-rank, long-form, first_byte, size-short}

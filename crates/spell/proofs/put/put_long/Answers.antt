@@ -1,6 +1,5 @@
 -- `spell::put::put_long` meets its contract: the bytes that are laid are the first of the part. Assumes nothing.
 use mathlib.Core.Path.{◌∙◌, refl}
-use Prim.Native.Nat.{◌-◌}
 use native.Mathlib.Omega.{arith}
 use borrow.Author.Rules.{rules}
 use Rattle.spell.proofs.Puts.{part_on, part_last}

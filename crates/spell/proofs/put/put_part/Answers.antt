@@ -1,6 +1,5 @@
 -- `spell::put::put_part` meets its contract: what is left to lay completes the part; a long one is laid in eights. Assumes nothing.
 use mathlib.Core.Path.{refl}
-use Prim.Native.Nat.{◌-◌}
 use lib.ListN.{length-set}
 use borrow.Author.Rules.{rules}
 use Rattle.spell.proofs.Puts.{part_start, part_turn, part_end}

@@ -1,5 +1,4 @@
 -- `text::plain::behind_plain` meets its contract: all bytes passed so far are plain. Assumes nothing.
-use Prim.Native.Nat.{◌-◌}
 use borrow.Author.Rules.{rules}
 use borrow.Author.Tests.{not-false}
 use Rattle.text.proofs.PlainRuns.{no_run, one_more, eight_more}

@@ -1,7 +1,7 @@
 -- `wide::body::read_body` meets its contract. Assumes nothing.
 use mathlib.Core.Path.{◌≡◌}
 use mathlib.Core.Bool.{◌&&◌}
-use Prim.Native.Nat.{◌-◌, ◌≤◌}
+use Prim.Native.Nat.{◌≤◌}
 use lib.ListN.{take, drop, get_or}
 use lib.Dec.{leb}
 use Rattle.wide.proofs.Numbers.{onto}

@@ -1,6 +1,5 @@
 -- `wide::body::write_body` meets its contract: what is left to write completes the body. Assumes nothing.
 use mathlib.Core.Path.{◌∙◌, sym, subst}
-use Prim.Native.Nat.{◌-◌}
 use borrow.Author.Rules.{rules}
 use Rattle.wide.specs.Words.{value_of}
 use Rattle.wide.proofs.Wides.{Words}

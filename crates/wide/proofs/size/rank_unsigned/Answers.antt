@@ -1,7 +1,7 @@
 -- `wide::size::rank_unsigned` meets its contract: a law of Ranking for each way out. Assumes nothing.
 use mathlib.Core.Logic.{⊎_elim}
 use borrow.Author.Rules.{rules}
-use borrow.Author.Tests.{eqb-true, eqb-false}
+use borrow.Author.Tests.{eqb-true}
 use Rattle.wide.proofs.Wides.{Words}
 use Rattle.wide.proofs.Ranking.{at_low, at_top}
 use Rattle.wide.proofs.size.rank_unsigned.Goals as goal

@@ -1,5 +1,4 @@
 -- `writer::flat::write_rows` meets its contract: what is left to write completes the document. Assumes nothing.
-use Prim.Native.Nat.{◌-◌}
 use Rattle.writer.proofs.Writing.{writes_start, row_held, child-spelt, row_inside, row_room, writes_turn, writes_end}
 use Rattle.writer.proofs.flat.write_rows.Goals as goal
 

@@ -1,6 +1,5 @@
 -- `writer::sizes`: size_row and size_children meet their contracts. The measure is the rows that remain, and within a row the way from it to its
 -- children. Assumes nothing.
-use Prim.Native.Nat.{◌-◌}
 use mathlib.Core.Path.{◌∙◌}
 use native.Mathlib.Omega.{arith}
 use Rattle.writer.proofs.Counting.{row_held, row-few, end_is, leaf-long, child-spelt, row-long, row-short, counted_start, here_held, here_up, here-low, here-spelt, counted_turn, counted_short, counted_end}
