@@ -17,7 +17,7 @@ CYCLES = {
 }
 CYCLES |= {"+" + old: "+" + new for old, new in CYCLES.items()}
 # by hand: facts, and names that would fall together
-BY_HAND = {}
+BY_HAND = {"UTF8-tail": "UTF8-tail"}  # the RFC's
 
 
 def files(root, ends, below="crates"):
@@ -69,7 +69,8 @@ def rules(root):
     new = {}
     for n in tops:
         if n in BY_HAND:
-            new[n] = BY_HAND[n]
+            if BY_HAND[n] != n:
+                new[n] = BY_HAND[n]
             continue
         if n[:1].isupper() and "-" not in n:
             continue

@@ -7,7 +7,7 @@ use native.Mathlib.Omega.{arith}
 use lib.ListN.{length, get_or, replicate, length-replicate}
 use Rattle.text.specs.declared.lead.Lead.{Lead}
 use Rattle.text.specs.declared.lead.Lead.TheVariants.{Starts, Never}
-use Rattle.text.specs.Syntax.{Range, ◌to◌, Line, UTF8_tail, UTF8-char}
+use Rattle.text.specs.Syntax.{Range, ◌to◌, Line, UTF8-tail, UTF8-char}
 use Rattle.text.specs.Check.{in_range, matches, taken, sequence}
 use Rattle.text.specs.Inner.{line_in, leads, lead_of}
 use Rattle.text.proofs.Table.{within_bounds, Tailed, Ordered, ordered, below}
@@ -32,11 +32,11 @@ lead_at n b x h e = e ∙ ap leads (sym (picked n UTF8-char b h))
 -- n continuation bytes, the first of them from low to high
 abbrev pub tails : ℕ → ℕ → ℕ → Line
 tails zero low high = []
-tails (suc n) low high = low to high ∷ replicate n UTF8_tail
+tails (suc n) low high = low to high ∷ replicate n UTF8-tail
 
 pub length_tails : (n low high : ℕ) → length (tails n low high) ≡ n
 length_tails zero low high = refl
-length_tails (suc n) low high = ap suc (length-replicate n UTF8_tail)
+length_tails (suc n) low high = ap suc (length-replicate n UTF8-tail)
 
 abbrev tails_of : Lead → Line
 tails_of (Starts n low high) = tails n low high

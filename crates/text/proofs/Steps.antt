@@ -10,7 +10,7 @@ use lib.Seq.{drop-cons, drop-drop}
 use Rattle.text.specs.declared.answer.Text.TheVariants.{WellFormed, IllFormed}
 use Rattle.text.specs.declared.lead.Lead.{Lead}
 use Rattle.text.specs.declared.lead.Lead.TheVariants.{Starts, Never}
-use Rattle.text.specs.Syntax.{◌to◌, Line, UTF8_tail, plain_byte}
+use Rattle.text.specs.Syntax.{◌to◌, Line, UTF8-tail, plain_byte}
 use Rattle.text.specs.Inner.{lead_of, PlainTo}
 use Rattle.text.specs.Check.{in_range, matches, sequence, text_from, text_of}
 use Rattle.text.proofs.Leads.{tails, length_tails, lead_at, lead_starts, lead_never}
@@ -87,7 +87,7 @@ module _ (s : List ℕ) (i n low high : ℕ) (l : Lead) (r : Reached s i) (h : i
   cut a = lost s i r h (behind ∙ rw (too_few (tails n low high) (drop (i + 1) s) (omega (arith, length-drop (i + 1) s, length_tails n low high))))
 
 -- all tails, or one and the others
-all_tails : (n : ℕ) → replicate n UTF8_tail ≡ tails n 0x80 0xBF
+all_tails : (n : ℕ) → replicate n UTF8-tail ≡ tails n 0x80 0xBF
 all_tails zero = refl
 all_tails (suc n) = refl
 

@@ -8,7 +8,7 @@ use borrow.Author.Rules.{rules}
 use borrow.Author.Tests.{le-leb, lt-leb, leb-true}
 use lib.Dec.{leb}
 use lib.ListN.{length, replicate}
-use Rattle.text.specs.Syntax.{◌to◌, Line, UTF8_tail, UTF8-char}
+use Rattle.text.specs.Syntax.{◌to◌, Line, UTF8-tail, UTF8-char}
 use Rattle.text.specs.Check.{in_range, taken}
 
 pub within_true : (low high b : ℕ) → low ≤ b → b ≤ high → in_range (low to high) b ≡ true
@@ -48,7 +48,7 @@ other_byte byte b e = within_false byte byte b (λ h. omega arith)
 -- behind its second range a line has tails alone; l is the line without its first
 abbrev pub Tailed : Line → Type 0
 Tailed [] = Unit {0}
-Tailed (r ∷ l) = l ≡ replicate (length l) UTF8_tail
+Tailed (r ∷ l) = l ≡ replicate (length l) UTF8-tail
 
 -- the first ranges rise from line to line, from floor on
 abbrev pub Ordered : ℕ → List Line → Type 0

@@ -3,7 +3,7 @@
 use Rattle.std.specs.Prelude.{ℕ, zero, suc, ◌+◌, ◌*◌, ◌≤◌, ◌<◌, true, cond, List, [], ◌∷◌, ◌≡◌, length, get_or}
 use Rattle.text.specs.declared.lead.Lead.{Lead}
 use Rattle.text.specs.declared.lead.Lead.TheVariants.{Starts, Never}
-use Rattle.text.specs.Syntax.{Range, ◌to◌, Line, UTF8_tail, plain_byte, UTF8-char}
+use Rattle.text.specs.Syntax.{Range, ◌to◌, Line, UTF8-tail, plain_byte, UTF8-char}
 use Rattle.text.specs.Check.{in_range}
 
 -- the first of these lines that may begin with b, [] where none may
@@ -19,7 +19,7 @@ goes_on n (low to high) = Starts n low high
 -- what a line says behind its first range; where nothing follows, no range is asked, and a tail's is named
 abbrev pub leads : Line → Lead
 leads [] = Never
-leads (r ∷ []) = goes_on 0 UTF8_tail
+leads (r ∷ []) = goes_on 0 UTF8-tail
 leads (r ∷ next ∷ l) = goes_on (length (next ∷ l)) next
 
 -- what b, as the first byte of a sequence, says of the others

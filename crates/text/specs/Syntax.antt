@@ -14,9 +14,9 @@ only b = b to b
 abbrev pub Line : Type 0
 Line = List Range
 
--- "UTF8_tail = %x80-BF"
-abbrev pub UTF8_tail : Range
-UTF8_tail = 0x80 to 0xBF
+-- "UTF8-tail = %x80-BF"
+abbrev pub UTF8-tail : Range
+UTF8-tail = 0x80 to 0xBF
 
 -- "%x00-7F": such a byte, a sequence by itself, is called plain
 abbrev pub plain_byte : Range
@@ -26,30 +26,30 @@ plain_byte = 0x00 to 0x7F
 abbrev pub UTF8-1 : List Line
 UTF8-1 = (plain_byte ∷ []) ∷ []
 
--- "UTF8-2 = %xC2-DF UTF8_tail"
+-- "UTF8-2 = %xC2-DF UTF8-tail"
 abbrev pub UTF8-2 : List Line
-UTF8-2 = (0xC2 to 0xDF ∷ UTF8_tail ∷ []) ∷ []
+UTF8-2 = (0xC2 to 0xDF ∷ UTF8-tail ∷ []) ∷ []
 
--- "UTF8-3 = %xE0 %xA0-BF UTF8_tail /
---           %xE1-EC 2( UTF8_tail ) /
---           %xED %x80-9F UTF8_tail /
---           %xEE-EF 2( UTF8_tail )"
+-- "UTF8-3 = %xE0 %xA0-BF UTF8-tail /
+--           %xE1-EC 2( UTF8-tail ) /
+--           %xED %x80-9F UTF8-tail /
+--           %xEE-EF 2( UTF8-tail )"
 abbrev pub UTF8-3 : List Line
 UTF8-3 =
-    (only 0xE0 ∷ 0xA0 to 0xBF ∷ UTF8_tail ∷ [])
-    ∷ (0xE1 to 0xEC ∷ replicate 2 UTF8_tail)
-    ∷ (only 0xED ∷ 0x80 to 0x9F ∷ UTF8_tail ∷ [])
-    ∷ (0xEE to 0xEF ∷ replicate 2 UTF8_tail)
+    (only 0xE0 ∷ 0xA0 to 0xBF ∷ UTF8-tail ∷ [])
+    ∷ (0xE1 to 0xEC ∷ replicate 2 UTF8-tail)
+    ∷ (only 0xED ∷ 0x80 to 0x9F ∷ UTF8-tail ∷ [])
+    ∷ (0xEE to 0xEF ∷ replicate 2 UTF8-tail)
     ∷ []
 
--- "UTF8-4 = %xF0 %x90-BF 2( UTF8_tail ) /
---           %xF1-F3 3( UTF8_tail ) /
---           %xF4 %x80-8F 2( UTF8_tail )"
+-- "UTF8-4 = %xF0 %x90-BF 2( UTF8-tail ) /
+--           %xF1-F3 3( UTF8-tail ) /
+--           %xF4 %x80-8F 2( UTF8-tail )"
 abbrev pub UTF8-4 : List Line
 UTF8-4 =
-    (only 0xF0 ∷ 0x90 to 0xBF ∷ replicate 2 UTF8_tail)
-    ∷ (0xF1 to 0xF3 ∷ replicate 3 UTF8_tail)
-    ∷ (only 0xF4 ∷ 0x80 to 0x8F ∷ replicate 2 UTF8_tail)
+    (only 0xF0 ∷ 0x90 to 0xBF ∷ replicate 2 UTF8-tail)
+    ∷ (0xF1 to 0xF3 ∷ replicate 3 UTF8-tail)
+    ∷ (only 0xF4 ∷ 0x80 to 0x8F ∷ replicate 2 UTF8-tail)
     ∷ []
 
 -- "UTF8-char = UTF8-1 / UTF8-2 / UTF8-3 / UTF8-4"
