@@ -94,8 +94,8 @@ function alone(name, joined) {
 function good(name, joined) {
     if (name ~ /^[0-9a-f][0-9a-f]( [0-9a-f][0-9a-f])*$/ || name !~ /[A-Za-z]/)
         return 1 # bytes, numbers
-    if (name ~ /^returns(-[0-9]+)?$/)
-        return 1 # a way out of a function, as the prover numbers them
+    if (name ~ /^returns(-.*)?$/)
+        return 1 # a way out of a function, as the prover names them
     if (name ~ /^([-&]|\.[a-z]|lib\.|__[a-z]|rattle_)/ || name ~ /=/ || name ~ /^(crate\/)?File\.name$/)
         return 1 # options, types, the kit's own, what a run prints, how a name is written
     if (name ~ /^[A-Za-z_:]+(<[^>]*>)?\(/)
