@@ -1,5 +1,5 @@
-// A walker that holds the table that it walks. Each step takes it apart and calls the covered function of `walker`, its fields in the order of
-// that one's parameters; the proofs are walks by hand.
+// A walker that holds the table that it walks. Each step takes it apart and calls the function of `walker`, its fields in the order of that one's
+// parameters.
 #![tactic(auto)]
 
 ghost use Rattle.std.specs.Prelude.{◌≡◌};
@@ -62,7 +62,7 @@ pub fn walker_along<'a>(w: Walker<'a>) -> Step
     walker::along_from(w.table, w.n, w.row, w.bound)
 }
 
-// The first child of row 0. Its parameters are plain: a caller of it needs no walk.
+// The first child of row 0. Its parameters are plain.
 pub fn first_child(table: &[u32], n: usize) -> Step
     ensures { result ≡ step_in table.now n (start_of n) }
 {
