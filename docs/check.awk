@@ -96,7 +96,7 @@ function good(name, joined) {
         return 1 # bytes, numbers
     if (name ~ /^returns(-.*)?$/)
         return 1 # a way out of a function, as the prover names them
-    if (name ~ /^([-&]|\.[a-z]|lib\.|__[a-z]|rattle_)/ || name ~ /=/ || name ~ /^(crate\/)?File\.name$/)
+    if (name ~ /^([-&]|\.[a-z]|lib\.|Rattle\.std\.|__[a-z]|rattle_)/ || name ~ /=/ || name ~ /^(crate\/)?File\.name$/)
         return 1 # options, types, the kit's own, what a run prints, how a name is written
     if (name ~ /^[A-Za-z_:]+(<[^>]*>)?\(/)
         sub(/[<(].*/, "", name) # a function and its parameters
