@@ -126,8 +126,8 @@ function names(text, n, i, part, between) {
         wrong("a backtick without its other one")
         return
     }
-    if (FILENAME ~ /LANDINGS|PORT|^bench|^tests/)
-        return # LANDINGS and PORT name what is gone, too, and these name parts of other programs
+    if (FILENAME ~ /LANDINGS|PORT|DESIGN-PASS|^bench|^tests/)
+        return # LANDINGS, PORT and DESIGN-PASS name what is gone, too, and these name parts of other programs
     for (i = 2; i <= n; i += 2) {
         between = part[i - 1]
         parentheses(between)

@@ -12,49 +12,45 @@ use mir.Syntax.{w32}
 use mir.Val.{Fits}
 use Rattle.lists.proofs.Tests.{and_first, and_second}
 use Rattle.wide.specs.declared.wide.Wide.{Wide}
-use Rattle.variable.specs.declared.answer.Read.{Read}
-use Rattle.variable.specs.declared.answer.Written.{Written as Coded}
-use Rattle.variable.specs.declared.answer.Written.TheVariants as codes
+use Rattle.std.specs.Prelude.{Option, Some, None, Result, Ok, Err}
+use Rattle.variable.specs.declared.got.Got.{Got}
+use Rattle.variable.specs.declared.short.Short.{Short}
+use Rattle.variable.specs.declared.no_room.NoRoom.{NoRoom}
 use Rattle.wide.specs.Words.{value_of, words}
 use Rattle.wide.specs.Body.{size_at}
 use Rattle.wide.specs.Family.{Family, Coded as Form, is, short, other, behind, has_byte, longer, body, unmarked, marked, coded, form}
 use Rattle.wide.specs.Members.{signed, unsigned}
 use Rattle.wide.specs.Inner.{variable}
-use Rattle.variable.specs.Answer.{read_as, read_of, read_used, written_of, output_of, coded_beside}
+use Rattle.variable.specs.Answer.{needs, read_as, read_of, read_used, written_of, output_of, coded_beside}
 use Rattle.wide.proofs.Wides.{Words}
 use Rattle.wide.proofs.Ranks.{size_high}
 use Rattle.wide.proofs.Families.{cond-case, Takes}
 use Rattle.variable.proofs.Promises.{write_read}
+use Rattle.rows.specs.declared.bad_table.BadTable.{BadTable}
 use Rattle.rows.specs.declared.row.Row.{Row}
 use Rattle.rows.specs.Table.{words_per_row, row_at, lent, limit}
 use Rattle.rows.specs.Kinds.{kind_reference}
-use Rattle.format.specs.declared.answer.Answer.{Answer}
-use Rattle.format.specs.declared.answer.Answer.TheVariants.{Accepted, TooLong, Full}
+use Rattle.format.specs.declared.unfilled.Unfilled.{Unfilled}
+use Rattle.format.specs.declared.unfilled.Unfilled.TheVariants.{TooLong, Full}
 use Rattle.format.specs.Tree.{size}
 use Rattle.format.specs.Value.{Reading, right, wrong, document}
-use Rattle.format.specs.declared.needed.Needed.{Needed}
-use Rattle.format.specs.declared.needed.Needed.TheVariants as needs
+use Rattle.format.specs.declared.unmeasured.Unmeasured.{Unmeasured}
+use Rattle.format.specs.declared.unmeasured.Unmeasured.TheVariants as unmeasured
 use Rattle.format.specs.Answer.{answer_for, answer, answer_beside, needed_for, needed, needed_beside}
 use Rattle.format.proofs.Values.{document-rows, document_within}
 use Rattle.rules.specs.Grow.{rules_hold}
 use Rattle.rules.proofs.Exact.{yes_stands}
-use Rattle.checker.specs.declared.checked.Checked.{Checked}
-use Rattle.checker.specs.declared.checked.Checked.TheVariants as checks
-use Rattle.checker.specs.Checked.{checked, checked_beside}
-use Rattle.writer.specs.declared.written.Written.{Written}
-use Rattle.writer.specs.declared.written.Written.TheVariants as writes
+use Rattle.checker.specs.Checked.{bad_table, checked, checked_beside}
+use Rattle.writer.specs.declared.unwritten.Unwritten.{Unwritten}
+use Rattle.writer.specs.declared.unwritten.Unwritten.TheVariants as writes
 use Rattle.writer.specs.Written.{document_of, fitted, written, written_beside}
 use Rattle.writer.proofs.Asks.{yes_few}
 use Rattle.walker.specs.declared.standing.Standing.{Standing}
-use Rattle.walker.specs.declared.step.Step.{Step}
-use Rattle.walker.specs.declared.step.Step.TheVariants.{To, NoStep, BadTable}
-use Rattle.resolve.specs.declared.one_move.Move.{Move}
-use Rattle.resolve.specs.declared.one_move.Move.TheVariants as go
+use Rattle.walker.specs.declared.unmoved.Unmoved.TheVariants as unmoved
 use Rattle.resolve.specs.declared.resolved.Resolved.{Resolved}
-use Rattle.resolve.specs.declared.resolved.Resolved.TheVariants as ends
 use Rattle.payload.specs.declared.part.Part.{Part}
-use Rattle.walker.specs.Walk.{genuine, inward, onward, alongside, step_in, step_on, step_along}
-use Rattle.resolve.specs.Resolve.{move_from, move_at, chased, chase, resolve}
+use Rattle.walker.specs.Walk.{Step, standing, genuine, inward, onward, alongside, step_in, step_on, step_along}
+use Rattle.resolve.specs.Resolve.{Move, broken, move_from, move_at, chased, ended_at, chase, resolve}
 use Rattle.payload.specs.Payload.{has_payload, part, part_of, payload_at}
 use Rattle.packing.specs.Packed.{within}
 use Rattle.packing.specs.Inner.{LowStep, SmallResolved, SmallPart}
@@ -64,13 +60,13 @@ use Rattle.packing.specs.Inner.{LowStep, SmallResolved, SmallPart}
 beside : (depth : ℕ) (s table : List ℕ) → answer_beside (answer depth s table) ≤ limit
 unfolding answer
 beside depth s table =
-    cond-case (λ (a : Answer). answer_beside a ≤ limit) (leb (length s) limit) (answer_for (lent table) (document depth s)) TooLong
+    cond-case (λ (a : Result ℕ Unfilled). answer_beside a ≤ limit) (leb (length s) limit) (answer_for (lent table) (document depth s)) (Err TooLong)
     (λ h. of (leb-true (length s) limit h) (document depth s) refl)
     (λ _. omega arith)
   where
     of : length s ≤ limit → (x : Reading) → document depth s ≡ x → answer_beside (answer_for (lent table) x) ≤ limit
     of l (right t next) e =
-        cond-case (λ (a : Answer). answer_beside a ≤ limit) (leb (size t) (lent table)) (Accepted (size t)) (Full (size t))
+        cond-case (λ (a : Result ℕ Unfilled). answer_beside a ≤ limit) (leb (size t) (lent table)) (Ok (size t)) (Err (Full (size t)))
         (λ _. omega (arith, document-rows depth s t next e))
         (λ _. omega (arith, document-rows depth s t next e))
     of l (wrong e place) q = omega (arith, document_within depth s e place q)
@@ -78,7 +74,7 @@ beside depth s table =
 needed-low : (depth : ℕ) (s : List ℕ) → needed_beside (needed depth s) ≤ limit
 unfolding needed
 needed-low depth s =
-    cond-case (λ (a : Needed). needed_beside a ≤ limit) (leb (length s) limit) (needed_for (document depth s)) needs.TooLong
+    cond-case (λ (a : Result ℕ Unmeasured). needed_beside a ≤ limit) (leb (length s) limit) (needed_for (document depth s)) (Err unmeasured.TooLong)
     (λ h. of (leb-true (length s) limit h) (document depth s) refl)
     (λ _. omega arith)
   where
@@ -86,28 +82,28 @@ needed-low depth s =
     of l (right t next) e = omega (arith, document-rows depth s t next e)
     of l (wrong e place) q = omega (arith, document_within depth s e place q)
 
-pub needed-beside : (depth : ℕ) (s : List ℕ) (a : Needed) → a ≡ needed depth s → needed_beside a < 2 ^ 56
+pub needed-beside : (depth : ℕ) (s : List ℕ) (a : Result ℕ Unmeasured) → a ≡ needed depth s → needed_beside a < 2 ^ 56
 needed-beside depth s a e = omega (arith, needed-low depth s, ap needed_beside e)
 
-pub answer-beside : (depth : ℕ) (s table : List ℕ) (a : Answer) → a ≡ answer depth s table → answer_beside a < 2 ^ 56
+pub answer-beside : (depth : ℕ) (s table : List ℕ) (a : Result ℕ Unfilled) → a ≡ answer depth s table → answer_beside a < 2 ^ 56
 answer-beside depth s table a e = omega (arith, beside depth s table, ap answer_beside e)
 
 checked-rows : (depth : ℕ) (table : List ℕ) (n : ℕ) (s : List ℕ) → checked_beside (checked depth table n s) ≤ limit
 unfolding checked
 checked-rows depth table n s =
-    cond-case (λ (c : Checked). checked_beside c ≤ limit) (rules_hold depth table n s) (checks.Right n) checks.BadTable
+    cond-case (λ (c : Result ℕ BadTable). checked_beside c ≤ limit) (rules_hold depth table n s) (Ok n) (Err bad_table)
     (λ h. (yes_stands depth table n s h).1.few)
     (λ _. omega arith)
 
-pub checked-beside : (depth : ℕ) (table : List ℕ) (n : ℕ) (s : List ℕ) (c : Checked) → c ≡ checked depth table n s → checked_beside c < 2 ^ 56
+pub checked-beside : (depth : ℕ) (table : List ℕ) (n : ℕ) (s : List ℕ) (c : Result ℕ BadTable) → c ≡ checked depth table n s → checked_beside c < 2 ^ 56
 checked-beside depth table n s c e = omega (arith, checked-rows depth table n s, ap checked_beside e)
 
 -- ---- bytes needed
 
 fitted_beside : (needed room : ℕ) → written_beside (fitted needed room) ≡ needed
 fitted_beside needed room =
-    cond-case (λ (w : Written). written_beside w ≡ needed) (leb needed limit) (cond (leb needed room) (writes.Done needed) (writes.NoRoom needed)) (writes.TooLarge needed)
-    (λ _. cond-case (λ (w : Written). written_beside w ≡ needed) (leb needed room) (writes.Done needed) (writes.NoRoom needed) (λ _. refl) (λ _. refl))
+    cond-case (λ (w : Result ℕ Unwritten). written_beside w ≡ needed) (leb needed limit) (cond (leb needed room) (Ok needed) (Err (writes.NoRoom needed))) (Err (writes.TooLarge needed))
+    (λ _. cond-case (λ (w : Result ℕ Unwritten). written_beside w ≡ needed) (leb needed room) (Ok needed) (Err (writes.NoRoom needed)) (λ _. refl) (λ _. refl))
     (λ _. refl)
 
 small_product : (n l : ℕ) → n ≤ limit → l ≤ n * 2 ^ 25 → l < 2 ^ 56
@@ -117,20 +113,20 @@ module _ (depth : ℕ) (table : List ℕ) (fit : (i : ℕ) → get_or table i 0 
   written-bytes : written_beside (written depth table n s room) < 2 ^ 56
   unfolding written
   written-bytes =
-      cond-case (λ (w : Written). written_beside w < 2 ^ 56) (rules_hold depth table n s) (fitted (length (document_of depth table n s)) room) writes.BadTable
+      cond-case (λ (w : Result ℕ Unwritten). written_beside w < 2 ^ 56) (rules_hold depth table n s) (fitted (length (document_of depth table n s)) room) (Err writes.BadTable)
       (λ h. subst (λ (x : ℕ). x < 2 ^ 56) (sym (fitted_beside (length (document_of depth table n s)) room))
       (small_product n (length (document_of depth table n s)) (yes_stands depth table n s h).1.few (yes_few depth table n s h fit)))
       (λ _. omega arith)
 
-  pub written-beside : (w : Written) → w ≡ written depth table n s room → written_beside w < 2 ^ 56
+  pub written-beside : (w : Result ℕ Unwritten) → w ≡ written depth table n s room → written_beside w < 2 ^ 56
   written-beside w e = omega (arith, written-bytes, ap written_beside e)
 
 -- ---- standings
 
-none-low : LowStep NoStep
+none-low : LowStep (Err unmoved.NoStep)
 none-low = record { row_low = omega arith; bound_low = omega arith }
 
-pub bad-low : LowStep BadTable
+pub bad-low : LowStep (Err unmoved.BadTable)
 bad-low = record { row_low = omega arith; bound_low = omega arith }
 
 -- what a genuine standing has
@@ -159,14 +155,14 @@ module _ (table : List ℕ) (n : ℕ) (few : n ≤ limit) (at : Standing) where
   abbrev R : Row
   R = row_at table at.row
 
-  asked_low : (x : Step) → (Stood table n at.row at.bound → LowStep x) → LowStep (cond (genuine table n at.row at.bound) x BadTable)
-  asked_low x f = cond-case LowStep (genuine table n at.row at.bound) x BadTable (λ g. f (stood table n at.row at.bound g)) (λ _. bad-low)
+  asked_low : (x : Step) → (Stood table n at.row at.bound → LowStep x) → LowStep (cond (genuine table n at.row at.bound) x (Err unmoved.BadTable))
+  asked_low x f = cond-case LowStep (genuine table n at.row at.bound) x (Err unmoved.BadTable) (λ g. f (stood table n at.row at.bound g)) (λ _. bad-low)
 
   pub in_low : LowStep (step_in table n at)
   unfolding step_in
   in_low =
       asked_low (inward at.row R)
-      (λ g. cond-case LowStep (ltb (at.row + 1) R.end) (To (at.row + 1) R.end) NoStep
+      (λ g. cond-case LowStep (ltb (at.row + 1) R.end) (Ok (standing (at.row + 1) R.end)) (Err unmoved.NoStep)
       (λ h. record { row_low = omega (arith, g.bounded, g.ends, ltb-true (at.row + 1) R.end h); bound_low = omega (arith, g.bounded, g.ends) })
       (λ _. none-low))
 
@@ -174,7 +170,7 @@ module _ (table : List ℕ) (n : ℕ) (few : n ≤ limit) (at : Standing) where
   unfolding step_on
   on_low =
       asked_low (onward at.bound R)
-      (λ g. cond-case LowStep (ltb R.end at.bound) (To R.end at.bound) NoStep
+      (λ g. cond-case LowStep (ltb R.end at.bound) (Ok (standing R.end at.bound)) (Err unmoved.NoStep)
       (λ h. record { row_low = omega (arith, g.bounded, g.ends); bound_low = omega (arith, g.bounded) })
       (λ _. none-low))
 
@@ -182,8 +178,8 @@ module _ (table : List ℕ) (n : ℕ) (few : n ≤ limit) (at : Standing) where
   unfolding step_along row_at
   along_low fit =
       asked_low (alongside table at.row R)
-      (λ g. cond-case LowStep (eqb R.kind kind_reference) (cond (ltb R.w1 at.row) (To R.w1 (row_at table R.w1).end) BadTable) NoStep
-      (λ _. cond-case LowStep (ltb R.w1 at.row) (To R.w1 (row_at table R.w1).end) BadTable
+      (λ g. cond-case LowStep (eqb R.kind kind_reference) (cond (ltb R.w1 at.row) (Ok (standing R.w1 (row_at table R.w1).end)) (Err unmoved.BadTable)) (Err unmoved.NoStep)
+      (λ _. cond-case LowStep (ltb R.w1 at.row) (Ok (standing R.w1 (row_at table R.w1).end)) (Err unmoved.BadTable)
       (λ h. record { row_low = omega (arith, g.below, ltb-true R.w1 at.row h); bound_low = fit (words_per_row * R.w1 + 1) })
       (λ _. bad-low))
       (λ _. none-low))
@@ -200,25 +196,25 @@ module _ (table : List ℕ) (n : ℕ) (at : Standing) (s : Step) where
 
 -- ---- resolving
 
-bad-small : SmallResolved ends.BadTable
+bad-small : SmallResolved broken
 bad-small = record { row_small = omega arith; bound_small = omega arith; moves_small = omega arith }
 
 -- a row where resolving stops is below n
-stop_below : (table : List ℕ) (n row : ℕ) → move_at table n row ≡ go.Stop → row < n
+stop_below : (table : List ℕ) (n row : ℕ) → move_at table n row ≡ Ok None → row < n
 unfolding move_at
 stop_below table n row =
-    cond-case (λ (m : Move). m ≡ go.Stop → row < n) (ltb row n) (move_from table n row (row_at table row)) go.Broken
+    cond-case (λ (m : Move). m ≡ Ok None → row < n) (ltb row n) (move_from table n row (row_at table row)) broken
     (λ h _. ltb-true row n h)
     (λ _ e. absurd (let z : ◌≡◌ {A = ℕ} 0 1 = cc in omega arith))
 
 module _ (table : List ℕ) (fit : (i : ℕ) → get_or table i 0 < 2 ^ 32) (n : ℕ) (few : n ≤ limit) where
-  chased-small : (row moves : ℕ) (rest : ℕ → Resolved) → moves ≤ limit → ((next : ℕ) → SmallResolved (rest next)) → (m : Move) → move_at table n row ≡ m
-      → SmallResolved (chased m (ends.At row (row_at table row).end moves) rest)
+  chased-small : (row moves : ℕ) (rest : ℕ → Result Resolved BadTable) → moves ≤ limit → ((next : ℕ) → SmallResolved (rest next)) → (m : Move) → move_at table n row ≡ m
+      → SmallResolved (chased m (ended_at row (row_at table row).end moves) rest)
   unfolding row_at
-  chased-small row moves rest l f go.Stop e =
+  chased-small row moves rest l f (Ok None) e =
       record { row_small = omega (arith, stop_below table n row e); bound_small = fit (words_per_row * row + 1); moves_small = omega arith }
-  chased-small row moves rest l f (go.To next) e = f next
-  chased-small row moves rest l f go.Broken e = bad-small
+  chased-small row moves rest l f (Ok (Some next)) e = f next
+  chased-small row moves rest l f (Err why) e = bad-small
 
   chase-small : (left row moves : ℕ) → moves + left ≤ limit → SmallResolved (chase table n left row moves)
   unfolding chase
@@ -229,16 +225,16 @@ module _ (table : List ℕ) (fit : (i : ℕ) → get_or table i 0 < 2 ^ 32) (n :
   resolve-small : (row : ℕ) → SmallResolved (resolve table n row)
   unfolding resolve
   resolve-small row =
-      cond-case SmallResolved (leb n (lent table)) (chase table n n row 0) ends.BadTable
+      cond-case SmallResolved (leb n (lent table)) (chase table n n row 0) broken
       (λ _. chase-small n row 0 (omega arith))
       (λ _. bad-small)
 
-module _ (table : List ℕ) (fit : (i : ℕ) → get_or table i 0 < 2 ^ 32) (n row : ℕ) (r : Resolved) (e : r ≡ within n (resolve table n row) ends.BadTable) where
+module _ (table : List ℕ) (fit : (i : ℕ) → get_or table i 0 < 2 ^ 32) (n row : ℕ) (r : Result Resolved BadTable) (e : r ≡ within n (resolve table n row) broken) where
   pub resolved_small : SmallResolved r
   unfolding within
   resolved_small =
       subst SmallResolved (sym e)
-      (cond-case SmallResolved (leb n limit) (resolve table n row) ends.BadTable
+      (cond-case SmallResolved (leb n limit) (resolve table n row) broken
       (λ h. resolve-small table fit n (leb-true n limit h) row)
       (λ _. bad-small))
 
@@ -291,10 +287,10 @@ reads-few : (sign : Bool) (s : List ℕ) → read_used (read_of (variable sign) 
 unfolding read_of
 reads-few sign s = used_few (coded (variable sign) s) (coded-few sign s)
 
-pub unsigned_used : (s : List ℕ) (r : Read) → r ≡ read_of unsigned s → read_used r < 2 ^ 56
+pub unsigned_used : (s : List ℕ) (r : Result Got Short) → r ≡ read_of unsigned s → read_used r < 2 ^ 56
 unsigned_used s r e = omega (arith, reads-few false s, ap read_used e)
 
-pub signed_used : (s : List ℕ) (r : Read) → r ≡ read_of signed s → read_used r < 2 ^ 56
+pub signed_used : (s : List ℕ) (r : Result Got Short) → r ≡ read_of signed s → read_used r < 2 ^ 56
 signed_used s r e = omega (arith, reads-few true s, ap read_used e)
 
 -- what is written is read back, with as many bytes
@@ -308,9 +304,9 @@ unfolding written_of
 coded-few-bytes sign w room h =
     let L : ℕ = length (form (variable sign) (value_of w)) in
     let l : L ≤ 17 = form-few sign w h in
-    cond-case (λ (x : Coded). coded_beside x ≤ 17) (leb L room) (codes.Done L) (codes.NoRoom L) (λ _. l) (λ _. l)
+    cond-case (λ (x : Result ℕ NoRoom). coded_beside x ≤ 17) (leb L room) (Ok L) (Err (needs L)) (λ _. l) (λ _. l)
 
-module _ (w0 w1 w2 w3 room : ℕ) (h0 : Fits w32 w0) (h1 : Fits w32 w1) (h2 : Fits w32 w2) (h3 : Fits w32 w3) (a : Coded) where
+module _ (w0 w1 w2 w3 room : ℕ) (h0 : Fits w32 w0) (h1 : Fits w32 w1) (h2 : Fits w32 w2) (h3 : Fits w32 w3) (a : Result ℕ NoRoom) where
   few : (sign : Bool) → a ≡ written_of (form (variable sign) (value_of (words w0 w1 w2 w3))) room → coded_beside a < 2 ^ 56
   few sign e = omega (arith, coded-few-bytes sign (words w0 w1 w2 w3) room (record { f0 = h0.fits; f1 = h1.fits; f2 = h2.fits; f3 = h3.fits }), ap coded_beside e)
 

@@ -10,7 +10,8 @@ use mir.Val.{Fits}
 use Rattle.wide.specs.Words.{value_of, words}
 use Rattle.wide.specs.Family.{form}
 use Rattle.wide.specs.Members.{signed, unsigned}
-use Rattle.variable.specs.declared.answer.Written.{Written as Coded}
+use Rattle.std.specs.Prelude.{Result, Err}
+use Rattle.variable.specs.declared.no_room.NoRoom.{NoRoom}
 use Rattle.variable.specs.Answer.{read_of, read_number, read_used, written_of, coded_number, coded_beside}
 use Rattle.wide.proofs.Families.{cond-case}
 use Rattle.rows.specs.Table.{limit}
@@ -18,9 +19,8 @@ use Rattle.format.specs.Answer.{answer, answer_number, answer_beside, needed, ne
 use Rattle.checker.specs.Checked.{checked, checked_number, checked_beside}
 use Rattle.writer.specs.Written.{written, written_number, written_beside}
 use Rattle.walker.specs.declared.standing.Standing.{Standing}
-use Rattle.walker.specs.declared.step.Step.{Step}
-use Rattle.walker.specs.declared.step.Step.TheVariants.{BadTable}
-use Rattle.walker.specs.Walk.{step_in, step_on, step_along}
+use Rattle.walker.specs.declared.unmoved.Unmoved.TheVariants as unmoved
+use Rattle.walker.specs.Walk.{Step, step_in, step_on, step_along}
 use Rattle.packing.specs.Packed.{packed, packed_needed, packed_answer, packed_checked, packed_written, packed_coded, packed_step, within}
 use Rattle.packing.specs.Inner.{LowStep}
 use Rattle.packing.proofs.Unpacks.{Unpacks, unpacks, Steps, steps}
@@ -46,17 +46,17 @@ unfolding packed_written
 write_unpacks depth table fit n s room = unpacks _ _ (bounds.written-beside depth table fit n s room (written depth table n s room) refl)
 
 module _ (table : List ℕ) (n : ℕ) (at : Standing) where
-  within_steps : (x : Step) → (n ≤ limit → LowStep x) → Steps (packed_step (within n x BadTable)) (within n x BadTable)
+  within_steps : (x : Step) → (n ≤ limit → LowStep x) → Steps (packed_step (within n x (Err unmoved.BadTable))) (within n x (Err unmoved.BadTable))
   unfolding within
-  within_steps x f = steps (within n x BadTable) (cond-case LowStep (leb n limit) x BadTable (λ h. f (leb-true n limit h)) (λ _. bounds.bad-low))
+  within_steps x f = steps (within n x (Err unmoved.BadTable)) (cond-case LowStep (leb n limit) x (Err unmoved.BadTable) (λ h. f (leb-true n limit h)) (λ _. bounds.bad-low))
 
-  pub in_unpacks : Steps (packed_step (within n (step_in table n at) BadTable)) (within n (step_in table n at) BadTable)
+  pub in_unpacks : Steps (packed_step (within n (step_in table n at) (Err unmoved.BadTable))) (within n (step_in table n at) (Err unmoved.BadTable))
   in_unpacks = within_steps (step_in table n at) (λ h. bounds.in_low table n h at)
 
-  pub on_unpacks : Steps (packed_step (within n (step_on table n at) BadTable)) (within n (step_on table n at) BadTable)
+  pub on_unpacks : Steps (packed_step (within n (step_on table n at) (Err unmoved.BadTable))) (within n (step_on table n at) (Err unmoved.BadTable))
   on_unpacks = within_steps (step_on table n at) (λ h. bounds.on_low table n h at)
 
-  pub along_unpacks : ((i : ℕ) → get_or table i 0 < 2 ^ 32) → Steps (packed_step (within n (step_along table n at) BadTable)) (within n (step_along table n at) BadTable)
+  pub along_unpacks : ((i : ℕ) → get_or table i 0 < 2 ^ 32) → Steps (packed_step (within n (step_along table n at) (Err unmoved.BadTable))) (within n (step_along table n at) (Err unmoved.BadTable))
   along_unpacks fit = within_steps (step_along table n at) (λ h. bounds.along_low table n h at fit)
 
 -- variable integers
@@ -67,10 +67,10 @@ pub signed_unpacks : (s : List ℕ) → Unpacks (packed (read_number (read_of si
 signed_unpacks s = unpacks _ _ (bounds.signed_used s (read_of signed s) refl)
 
 module _ (w0 w1 w2 w3 room : ℕ) (h0 : Fits w32 w0) (h1 : Fits w32 w1) (h2 : Fits w32 w2) (h3 : Fits w32 w3) where
-  abbrev U : Coded
+  abbrev U : Result ℕ NoRoom
   U = written_of (form unsigned (value_of (words w0 w1 w2 w3))) room
 
-  abbrev S : Coded
+  abbrev S : Result ℕ NoRoom
   S = written_of (form signed (value_of (words w0 w1 w2 w3))) room
 
   pub written-unsigned_unpacks : Unpacks (packed_coded U) (coded_number U) (coded_beside U)

@@ -30,8 +30,7 @@ use Rattle.rules.specs.Grow.{Growth, grew, bad, Growths, grew_all, bad_all, Grow
 use Rattle.rules.specs.Obeys.{KeyObeys, IfKey, Obeys}
 use Rattle.rules.proofs.Says.{damaged-inside as inside-data}
 use Rattle.rules.proofs.Growth.{Grew, Sound, item_sound, grow_sound}
-use Rattle.checker.specs.declared.extent.Extent.{Extent}
-use Rattle.checker.specs.declared.extent.Extent.TheVariants.{Until, Broken}
+use Rattle.std.specs.Prelude.{Option, Some, None}
 use Rattle.checker.specs.Inner.{EntriesBefore, EntriesBeforeChild, BasedForChild, is_alone, stands_alone, extent_of, extent_all, ending_at}
 use Rattle.checker.proofs.Leaves.{ends-grown}
 
@@ -44,19 +43,19 @@ unfolding grow
 grow-row d table n s registry row w x h q e = rw (lt-ltb row n h, ← q, ← e) (ends-grown w.end (by_shape table n s (grow table n s d) d registry row (own_of w) x))
 
 module _ (d : ℕ) (table : List ℕ) (n : ℕ) (s : List ℕ) (registry : List ℕ) (row : ℕ) where
-  pub value_deep : d ≡ 0 → Broken ≡ extent_of (grow table n s d registry row)
+  pub value_deep : d ≡ 0 → None ≡ extent_of (grow table n s d registry row)
   unfolding grow
   value_deep e = rw e
 
-  pub value_out : n ≤ row → Broken ≡ extent_of (grow table n s d registry row)
+  pub value_out : n ≤ row → None ≡ extent_of (grow table n s d registry row)
   unfolding grow
   value_out h = go d
     where
-      go : (x : ℕ) → Broken ≡ extent_of (grow table n s x registry row)
+      go : (x : ℕ) → None ≡ extent_of (grow table n s x registry row)
       go zero = refl
       go (suc x) = rw (le-ltb row n h)
 
-  pub value_in : (w : Row) (x : Shape) (g r : Extent) → (d ≡ 0 → ⊥) → row < n → w ≡ row_at table row → x ≡ shape_of s (own_of w)
+  pub value_in : (w : Row) (x : Shape) (g r : Option ℕ) → (d ≡ 0 → ⊥) → row < n → w ≡ row_at table row → x ≡ shape_of s (own_of w)
       → g ≡ extent_of (by_shape table n s (grow table n s (d - 1)) (d - 1) registry row (own_of w) x) → r ≡ ending_at w.end g → r ≡ extent_of (grow table n s d registry row)
   value_in w x g r left h q e f j =
       let p : suc (d - 1) ≡ d = omega arith in
@@ -89,11 +88,11 @@ module _ (d : ℕ) (table : List ℕ) (n : ℕ) (s : List ℕ) (row : ℕ) (b : 
   alone-is Whole e = absurd (let z : ◌≡◌ {A = ℕ} 0 1 = cc in omega arith)
   alone-is Damaged e = absurd (let z : ◌≡◌ {A = ℕ} 0 1 = cc in omega arith)
 
-  pub value-alone : (registry : List ℕ) → 0 < d → Until (row + 1) ≡ extent_of (grow table n s d registry row)
+  pub value-alone : (registry : List ℕ) → 0 < d → Some (row + 1) ≡ extent_of (grow table n s d registry row)
   unfolding by_shape
   value-alone registry left =
       let l = alone-is X (and_second (ltb row n) (is_alone X row W.end) stands) in
-      value_in d table n s registry row W X (Until (row + 1)) (Until (row + 1)) (λ z. absurd (let q : ⊥ = omega arith in q)) alone-here refl refl
+      value_in d table n s registry row W X (Some (row + 1)) (Some (row + 1)) (λ z. absurd (let q : ⊥ = omega arith in q)) alone-here refl refl
       (ap (λ (x : Shape). extent_of (by_shape table n s (grow table n s (d - 1)) (d - 1) registry row (own_of W) x)) (sym l.0))
       (rw (eq-eqb (row + 1) W.end (sym l.1)))
 
@@ -112,18 +111,18 @@ module _ (d : ℕ) (table : List ℕ) (n : ℕ) (s : List ℕ) (registry : List 
   abbrev R : Shape → Growth
   R = by_shape table n s (grow table n s d) d registry row (own_of w)
 
-  like : (y : Shape) (r : Extent) → x ≡ y → r ≡ extent_of (R y) → r ≡ extent_of (R x)
+  like : (y : Shape) (r : Option ℕ) → x ≡ y → r ≡ extent_of (R y) → r ≡ extent_of (R x)
   like y r e f = f ∙ ap (λ (z : Shape). extent_of (R z)) (sym e)
 
-  pub row-bad : x ≡ Bad → Broken ≡ extent_of (R x)
+  pub row-bad : x ≡ Bad → None ≡ extent_of (R x)
   unfolding by_shape
-  row-bad e = like Bad Broken e refl
+  row-bad e = like Bad None e refl
 
-  pub row-leaf : x ≡ Leaf → Until (row + 1) ≡ extent_of (R x)
+  pub row-leaf : x ≡ Leaf → Some (row + 1) ≡ extent_of (R x)
   unfolding by_shape
-  row-leaf e = like Leaf (Until (row + 1)) e refl
+  row-leaf e = like Leaf (Some (row + 1)) e refl
 
-  pub row-refer : (r : Extent) → x ≡ Refer → r ≡ extent_of (pointing registry row (own_of w)) → r ≡ extent_of (R x)
+  pub row-refer : (r : Option ℕ) → x ≡ Refer → r ≡ extent_of (pointing registry row (own_of w)) → r ≡ extent_of (R x)
   unfolding by_shape
   row-refer r e f = like Refer r e f
 
@@ -131,7 +130,7 @@ module _ (d : ℕ) (table : List ℕ) (n : ℕ) (s : List ℕ) (registry : List 
   over-children (grew_all ts next) = refl
   over-children bad_all = refl
 
-  row_holder : (h : Holder) (count : ℕ) (r : Extent) → x ≡ Hold h → count ≡ child_count h w.w0
+  row_holder : (h : Holder) (count : ℕ) (r : Option ℕ) → x ≡ Hold h → count ≡ child_count h w.w0
       → r ≡ extent_all (grows table n s (grow table n s d) (children_of h) registry 0 count (row + 1)) → r ≡ extent_of (R x)
   unfolding by_shape
   row_holder h count r e i f =
@@ -142,11 +141,11 @@ module _ (d : ℕ) (table : List ℕ) (n : ℕ) (s : List ℕ) (registry : List 
   over-body (grew t next) = refl
   over-body bad = refl
 
-  row-body : (r : Extent) → x ≡ Whole → r ≡ extent_of (grow table n s d (in_body registry) (row + 1)) → r ≡ extent_of (R x)
+  row-body : (r : Option ℕ) → x ≡ Whole → r ≡ extent_of (grow table n s d (in_body registry) (row + 1)) → r ≡ extent_of (R x)
   unfolding by_shape
   row-body r e f = like Whole r e (f ∙ sym (over-body (grow table n s d (in_body registry) (row + 1))))
 
-  pub row-declare : (m : ℕ) (r : Extent) → x ≡ Declare → m ≡ w.w0
+  pub row-declare : (m : ℕ) (r : Option ℕ) → x ≡ Declare → m ≡ w.w0
       → r ≡ extent_of (over_entries (grow table n s d) (declaration_own m) (row + 1) (grows table n s (grow table n s d) Entries [] 0 m (row + 1))) → r ≡ extent_of (R x)
   unfolding by_shape
   row-declare m r e l f =
@@ -154,14 +153,14 @@ module _ (d : ℕ) (table : List ℕ) (n : ℕ) (s : List ℕ) (registry : List 
       (f ∙ ap (λ (z : ℕ). extent_of (over_entries (grow table n s d) (declaration_own z) (row + 1) (grows table n s (grow table n s d) Entries [] 0 z (row + 1)))) l
       ∙ entries_alike (grow table n s d) (declaration_own w.w0) (own_of w) (row + 1) (grows table n s (grow table n s d) Entries [] 0 w.w0 (row + 1)))
 
-  row_spoilt : (r : Extent) → x ≡ Damaged
+  row_spoilt : (r : Option ℕ) → x ≡ Damaged
       → r ≡ extent_of (judged row (own_of w) (whole (w.w0 + w.w1) (value d s (in_foreign (length registry)) w.w0 (w.w0 + w.w1)))) → r ≡ extent_of (R x)
   unfolding by_shape
   row_spoilt r e f = like Damaged r e f
 
 -- the registry as the code has it: k entries, the first of them at `first`
 module _ (d : ℕ) (table : List ℕ) (n : ℕ) (s : List ℕ) (first k row : ℕ) (w : Row) (x : Shape) where
-  pub row-hold : (h : Holder) (c : Children) (m count : ℕ) (r : Extent) → x ≡ Hold h → c ≡ children_of h → m ≡ w.w0 → count ≡ child_count h m
+  pub row-hold : (h : Holder) (c : Children) (m count : ℕ) (r : Option ℕ) → x ≡ Hold h → c ≡ children_of h → m ≡ w.w0 → count ≡ child_count h m
       → r ≡ extent_all (grows table n s (grow table n s d) c (chain table first (in_force c k 0)) 0 count (row + 1))
       → r ≡ extent_of (by_shape table n s (grow table n s d) d (chain table first k) row (own_of w) x)
   row-hold h c m count r e i l j f =
@@ -169,14 +168,14 @@ module _ (d : ℕ) (table : List ℕ) (n : ℕ) (s : List ℕ) (first k row : �
       (f ∙ ap (λ (y : Children). extent_all (grows table n s (grow table n s d) y (chain table first (in_force y k 0)) 0 count (row + 1))) i
       ∙ ap (λ (y : ℕ). extent_all (grows table n s (grow table n s d) (children_of h) (chain table first y) 0 count (row + 1))) (around_force h k 0))
 
-  pub row-whole : (m : ℕ) (r : Extent) → x ≡ Whole → m ≡ in_foreign k → r ≡ extent_of (grow table n s d (chain table first m) (row + 1))
+  pub row-whole : (m : ℕ) (r : Option ℕ) → x ≡ Whole → m ≡ in_foreign k → r ≡ extent_of (grow table n s d (chain table first m) (row + 1))
       → r ≡ extent_of (by_shape table n s (grow table n s d) d (chain table first k) row (own_of w) x)
   row-whole m r e i f =
       let q : in_body (chain table first k) ≡ chain table first m =
       ap (λ (y : ℕ). take (in_foreign y) (chain table first k)) (length-chain table first k) ∙ chain_fewer table first k (in_foreign k) (in_foreign-few k) ∙ ap (chain table first) (sym i) in
       row-body d table n s (chain table first k) row w x r e (f ∙ ap (λ (l : List ℕ). extent_of (grow table n s d l (row + 1))) (sym q))
 
-  pub row-damaged : (r : Extent) → x ≡ Damaged → r ≡ extent_of (judged row (own_of w) (whole (w.w0 + w.w1) (value d s (in_foreign k) w.w0 (w.w0 + w.w1))))
+  pub row-damaged : (r : Option ℕ) → x ≡ Damaged → r ≡ extent_of (judged row (own_of w) (whole (w.w0 + w.w1) (value d s (in_foreign k) w.w0 (w.w0 + w.w1))))
       → r ≡ extent_of (by_shape table n s (grow table n s d) d (chain table first k) row (own_of w) x)
   row-damaged r e f =
       row_spoilt d table n s (chain table first k) row w x r e
@@ -233,8 +232,8 @@ value-based table base k m e b = rw e b
 
 -- ---- a child
 
-module _ (d : ℕ) (table : List ℕ) (n : ℕ) (s : List ℕ) (row first k : ℕ) (c : Children) (i : ℕ) (r : Extent) where
-  abbrev I : Extent
+module _ (d : ℕ) (table : List ℕ) (n : ℕ) (s : List ℕ) (row first k : ℕ) (c : Children) (i : ℕ) (r : Option ℕ) where
+  abbrev I : Option ℕ
   I = extent_of (item table n s (is_key c i) (grow table n s d) (chain table first (in_force c k i)) row)
 
   module _ (b : Bool) (e : b ≡ is_key c i) where
@@ -242,7 +241,7 @@ module _ (d : ℕ) (table : List ℕ) (n : ℕ) (s : List ℕ) (row first k : �
     unfolding item
     child_key t f = rw (← e, t) f
 
-    pub child-alone : b ≡ false → (q : Bool) → q ≡ stands_alone table n s row → q ≡ true → 0 < d → r ≡ Until (row + 1) → r ≡ I
+    pub child-alone : b ≡ false → (q : Bool) → q ≡ stands_alone table n s row → q ≡ true → 0 < d → r ≡ Some (row + 1) → r ≡ I
     unfolding item
     child-alone t q is y left f = rw (← e, t) (f ∙ value-alone d table n s row q is y (chain table first (in_force c k i)) left)
 
@@ -281,15 +280,15 @@ before-grown : (t : Tree) (q : Growths) → extent_all (at_front t q) ≡ extent
 before-grown t (grew_all ts e) = refl
 before-grown t bad_all = refl
 
-then_until : (p : Growth) (rest : ℕ → Growths) (a : ℕ) → extent_of p ≡ Until a → extent_all (and_then p rest) ≡ extent_all (rest a)
+then_until : (p : Growth) (rest : ℕ → Growths) (a : ℕ) → extent_of p ≡ Some a → extent_all (and_then p rest) ≡ extent_all (rest a)
 then_until (grew t m) rest a e = let i : m ≡ a = cc in before-grown t (rest m) ∙ ap (λ (x : ℕ). extent_all (rest x)) i
 then_until bad rest a e = cc
 
-then_broken : (p : Growth) (rest : ℕ → Growths) → extent_of p ≡ Broken → extent_all (and_then p rest) ≡ Broken
+then_broken : (p : Growth) (rest : ℕ → Growths) → extent_of p ≡ None → extent_all (and_then p rest) ≡ None
 then_broken (grew t m) rest e = cc
 then_broken bad rest e = refl
 
-grew_of : (F : Tree → Type 0) (table : List ℕ) (n : ℕ) (registry : List ℕ) (row : ℕ) (p : Growth) (a : ℕ) → extent_of p ≡ Until a → Sound F table n registry row p → (t : Tree) × Grew F table n registry row t a
+grew_of : (F : Tree → Type 0) (table : List ℕ) (n : ℕ) (registry : List ℕ) (row : ℕ) (p : Growth) (a : ℕ) → extent_of p ≡ Some a → Sound F table n registry row p → (t : Tree) × Grew F table n registry row t a
 grew_of F table n registry row (grew t m) a e w = let i : m ≡ a = cc in (t, subst (λ (x : ℕ). Grew F table n registry row t x) i w)
 grew_of F table n registry row bad a e w = absurd (let z : ◌≡◌ {A = ℕ} 0 1 = cc in omega arith)
 
@@ -302,7 +301,7 @@ pub record Going (d : ℕ) (table : List ℕ) (n : ℕ) (s : List ℕ) (first k 
       ≡ extent_all (grows table n s (grow table n s d) c (chain table first (in_force c k 0)) 0 count row)
 
 module _ (d : ℕ) (table : List ℕ) (n : ℕ) (s : List ℕ) (first k : ℕ) (c : Children) (count row : ℕ) where
-  abbrev All : Extent
+  abbrev All : Option ℕ
   All = extent_all (grows table n s (grow table n s d) c (chain table first (in_force c k 0)) 0 count row)
 
   pub going_first : EntriesBeforeChild table n first k c 0 row → Going d table n s first k c count row 0 row
@@ -312,11 +311,11 @@ module _ (d : ℕ) (table : List ℕ) (n : ℕ) (s : List ℕ) (first k : ℕ) (
     pub going_ready : EntriesBefore table n first (in_force c k i) here
     going_ready = v.ready.before
 
-    pub going_all : count ≤ i → Until here ≡ All
+    pub going_all : count ≤ i → Some here ≡ All
     unfolding grows
     going_all h = let z : count - i ≡ 0 = omega (arith, v.few) in rw z at v.same
 
-    module _ (turn : i < count) (g : Extent) (read : g ≡ extent_of (item table n s (is_key c i) (grow table n s d) (chain table first (in_force c k i)) here)) where
+    module _ (turn : i < count) (g : Option ℕ) (read : g ≡ extent_of (item table n s (is_key c i) (grow table n s d) (chain table first (in_force c k i)) here)) where
       abbrev reg : List ℕ
       reg = chain table first (in_force c k i)
 
@@ -332,10 +331,10 @@ module _ (d : ℕ) (table : List ℕ) (n : ℕ) (s : List ℕ) (first k : ℕ) (
           let e : count - i ≡ suc (count - (i + 1)) = omega arith in
           ap (λ (x : ℕ). grows table n s (grow table n s d) c reg i x here) e
 
-      pub going_broken : g ≡ Broken → Broken ≡ All
+      pub going_broken : g ≡ None → None ≡ All
       going_broken e = sym (ap extent_all one_more ∙ then_broken P rest (sym read ∙ e)) ∙ v.same
 
-      pub going_next : (a : ℕ) → g ≡ Until a → Going d table n s first k c count row (i + 1) a
+      pub going_next : (a : ℕ) → g ≡ Some a → Going d table n s first k c count row (i + 1) a
       going_next a e =
           let room : n ≤ lent table = v.ready.before.room in
           let F : Tree → Type 0 = λ t. IfKey (is_key c i) (KeyObeys s t) (Obeys s d (length reg) t) in
@@ -393,11 +392,11 @@ module _ (d : ℕ) (table : List ℕ) (n : ℕ) (s : List ℕ) (first : ℕ) whe
       (λ next. grows table n s G Entries (grown true (chain table first i) row) (i + 1) count next)
       (λ m b. subst (λ (l : List ℕ). RanAt table n first (i + 1) count m (grows table n s G Entries l (i + 1) count m)) (chain_next table n first 0 i row Entries a) (all-ran count (i + 1) m b))
 
-ran_of : (table : List ℕ) (n first count row : ℕ) (q : Growths) (e : ℕ) → extent_all q ≡ Until e → RanAt table n first 0 count row q → (ts : Trees) × (q ≡ grew_all ts e) × Ran table n first 0 count row ts e
+ran_of : (table : List ℕ) (n first count row : ℕ) (q : Growths) (e : ℕ) → extent_all q ≡ Some e → RanAt table n first 0 count row q → (ts : Trees) × (q ≡ grew_all ts e) × Ran table n first 0 count row ts e
 ran_of table n first count row (grew_all ts m) e h r = let i : m ≡ e = cc in (ts, ap (grew_all ts) i, subst (λ (x : ℕ). Ran table n first 0 count row ts x) i r)
 ran_of table n first count row bad_all e h r = absurd (let z : ◌≡◌ {A = ℕ} 0 1 = cc in omega arith)
 
-module _ (d : ℕ) (table : List ℕ) (n : ℕ) (s : List ℕ) (row count : ℕ) (room : n ≤ lent table) (few : n ≤ limit) (here : row ≤ n) (g : Extent)
+module _ (d : ℕ) (table : List ℕ) (n : ℕ) (s : List ℕ) (row count : ℕ) (room : n ≤ lent table) (few : n ≤ limit) (here : row ≤ n) (g : Option ℕ)
     (read : g ≡ extent_all (grows table n s (grow table n s d) Entries (chain table (first_in row) (in_force Entries 0 0)) 0 count row)) where
   abbrev Q : Growths
   Q = grows table n s (grow table n s d) Entries [] 0 count row
@@ -406,18 +405,18 @@ module _ (d : ℕ) (table : List ℕ) (n : ℕ) (s : List ℕ) (row count : ℕ)
   unfolding chain
   there = read
 
-  ran : (e : ℕ) → g ≡ Until e → (ts : Trees) × (Q ≡ grew_all ts e) × Ran table n row 0 count row ts e
+  ran : (e : ℕ) → g ≡ Some e → (ts : Trees) × (Q ≡ grew_all ts e) × Ran table n row 0 count row ts e
   unfolding chain
   ran e h = ran_of table n row count row Q e (sym there ∙ h) (all-ran d table n s row count 0 row (entries_ready table n row room few here))
 
-  registry_of : (e : ℕ) (h : g ≡ Until e) → chain table row count ≡ entries (ran e h).0 row []
+  registry_of : (e : ℕ) (h : g ≡ Some e) → chain table row count ≡ entries (ran e h).0 row []
   unfolding chain
   registry_of e h = sym (ap (chain table row) (zero-add count)) ∙ (ran e h).2.registry
 
-  pub own_under : (e : ℕ) → g ≡ Until e → row ≤ e
+  pub own_under : (e : ℕ) → g ≡ Some e → row ≤ e
   own_under e h = omega (arith, (ran e h).2.past)
 
-  module _ (e inner : ℕ) (h : g ≡ Until e) (b : inner ≡ base_of row e count) where
+  module _ (e inner : ℕ) (h : g ≡ Some e) (b : inner ≡ base_of row e count) where
     first_inner : first_in inner ≡ row
     first_inner = ap first_in b ∙ first_base row e count (omega arith)
 
@@ -429,14 +428,14 @@ module _ (d : ℕ) (table : List ℕ) (n : ℕ) (s : List ℕ) (row count : ℕ)
         let t = ran e h in
         rw b (based-rows table row e count (entries t.0 row []) (omega arith) (registry_of e h) (entries_each t.0 row e count t.2.number t.2.past))
 
-  pub declared_broken : g ≡ Broken → Broken ≡ extent_of (over_entries (grow table n s d) (declaration_own count) row Q)
+  pub declared_broken : g ≡ None → None ≡ extent_of (over_entries (grow table n s d) (declaration_own count) row Q)
   declared_broken h = go Q (sym there ∙ h)
     where
-      go : (q : Growths) → extent_all q ≡ Broken → Broken ≡ extent_of (over_entries (grow table n s d) (declaration_own count) row q)
+      go : (q : Growths) → extent_all q ≡ None → None ≡ extent_of (over_entries (grow table n s d) (declaration_own count) row q)
       go (grew_all ts m) h = cc
       go bad_all h = refl
 
-  pub declared_until : (e inner : ℕ) (r : Extent) → g ≡ Until e → inner ≡ base_of row e count → r ≡ extent_of (grow table n s d (chain table (first_in inner) count) e)
+  pub declared_until : (e inner : ℕ) (r : Option ℕ) → g ≡ Some e → inner ≡ base_of row e count → r ≡ extent_of (grow table n s d (chain table (first_in inner) count) e)
       → r ≡ extent_of (over_entries (grow table n s d) (declaration_own count) row Q)
   declared_until e inner r h b j =
       let t = ran e h in

@@ -1,5 +1,5 @@
 -- What the functions of the check ask and answer. Assumes nothing: these are definitions, and they are cited inside the crate only.
-use Rattle.std.specs.Prelude.{◌≡◌, ℕ, ◌+◌, ◌≤◌, ◌<◌, Bool, true, false, cond, ◌&&◌, List, ltb, eqb}
+use Rattle.std.specs.Prelude.{◌≡◌, ℕ, ◌+◌, ◌≤◌, ◌<◌, Bool, true, false, cond, ◌&&◌, List, Option, Some, None, ltb, eqb}
 use Rattle.rows.specs.Table.{own_of, row_at, lent, limit}
 use Rattle.registry.specs.Inner.{walk, Below, Based}
 use Rattle.format.specs.declared.head.Children.{Children}
@@ -9,8 +9,6 @@ use Rattle.rules.specs.declared.shape.Shape.{Shape}
 use Rattle.rules.specs.declared.shape.Shape.TheVariants.{Bad, Leaf, Refer, Hold, Declare, Whole, Damaged}
 use Rattle.rules.specs.Shape.{shape_of}
 use Rattle.rules.specs.Grow.{Growth, grew, bad, Growths, grew_all, bad_all}
-use Rattle.checker.specs.declared.extent.Extent.{Extent}
-use Rattle.checker.specs.declared.extent.Extent.TheVariants.{Until, Broken}
 
 -- the table holds n rows, and each of the k entries in force stands before `row`
 pub record EntriesBefore (table : List ℕ) (n first k row : ℕ) : Type 0 where
@@ -45,18 +43,18 @@ stands_alone table n s row =
     ltb row n && is_alone (shape_of s (own_of (row_at table row))) row (row_at table row).end
 
 -- how what grows stands: until the row behind it
-abbrev pub extent_of : Growth → Extent
-extent_of (grew t next) = Until next
-extent_of bad = Broken
+abbrev pub extent_of : Growth → Option ℕ
+extent_of (grew t next) = Some next
+extent_of bad = None
 
-abbrev pub extent_all : Growths → Extent
-extent_all (grew_all ts next) = Until next
-extent_all bad_all = Broken
+abbrev pub extent_all : Growths → Option ℕ
+extent_all (grew_all ts next) = Some next
+extent_all bad_all = None
 
-abbrev pub ending_at : ℕ → Extent → Extent
-ending_at end (Until next) = cond (eqb next end) (Until next) Broken
-ending_at end Broken = Broken
+abbrev pub ending_at : ℕ → Option ℕ → Option ℕ
+ending_at end (Some next) = cond (eqb next end) (Some next) None
+ending_at end None = None
 
 -- a damaged row whose verdict is `said`, where reading its bytes gave the refusal of that number
-abbrev pub verdict_is : ℕ → ℕ → ℕ → Extent
-verdict_is row said number = cond (eqb said number) (Until (row + 1)) Broken
+abbrev pub verdict_is : ℕ → ℕ → ℕ → Option ℕ
+verdict_is row said number = cond (eqb said number) (Some (row + 1)) None

@@ -6,49 +6,37 @@ ghost use Rattle.format.specs.Value.{in_foreign, value, whole};
 ghost use Rattle.rules.specs.Grow.{key_row, grow_key, pointing, judged};
 ghost use Rattle.checker.specs.Inner.{is_alone, stands_alone, extent_of, ending_at, verdict_is};
 
-use crate::extent::Extent;
 use measure::told;
 use rows::Row;
 use rules::Shape;
 
 // A row ends where what it holds does.
-pub fn ends_at(end: u32, g: Extent) -> Extent
+pub fn ends_at(end: u32, g: Option<usize>) -> Option<usize>
     ensures { result ≡ ending_at end g }
 {
-    match g {
-        Extent::Until { next } => {
-            if next == rows::number(end) {
-                return Extent::Until { next };
-            }
-            Extent::Broken
-        }
-        Extent::Broken => Extent::Broken,
-    }
+    g.filter(|next| *next == rows::number(end))
 }
 
 // A record's key, by its words.
-fn key_row(s: &[u8], row: usize, w: Row) -> Extent
+fn key_row(s: &[u8], row: usize, w: Row) -> Option<usize>
     requires { row < limit }
     ensures { result ≡ extent_of (key_row s.now row w) }
 {
-    if w.kind != Row::KEY {
-        return Extent::Broken;
+    if w.kind == Row::KEY && rules::spelt(s, w) {
+        return ends_at(w.end, Some(row + 1));
     }
-    if rules::spelt(s, w) {
-        return ends_at(w.end, Extent::Until { next: row + 1 });
-    }
-    Extent::Broken
+    None
 }
 
 // A record's key, at `row`.
-pub fn check_key(table: &[u32], n: usize, s: &[u8], row: usize) -> Extent
+pub fn check_key(table: &[u32], n: usize, s: &[u8], row: usize) -> Option<usize>
     requires { (n ≤ lent table.now) × (n ≤ limit) }
     ensures { result ≡ extent_of (grow_key table.now n s.now row) }
 {
     if row < n {
         return key_row(s, row, rows::row_at(table, row));
     }
-    Extent::Broken
+    None
 }
 
 // Whether a row of that shape, with that end, has no child and ends behind itself.
@@ -56,15 +44,7 @@ fn is_alone(shape: Shape, row: usize, end: u32) -> bool
     requires { row < limit }
     ensures { result ≡ is_alone shape row end }
 {
-    match shape {
-        Shape::Bad => false,
-        Shape::Leaf => rows::number(end) == row + 1,
-        Shape::Refer => false,
-        Shape::Hold { holder: _ } => false,
-        Shape::Declare => false,
-        Shape::Whole => false,
-        Shape::Damaged => false,
-    }
+    matches!(shape, Shape::Leaf) && rows::number(end) == row + 1
 }
 
 // Whether such a row stands at `row`: nothing more is asked of it, so that no call of check_value is made for the rows that are met most. Its
@@ -77,41 +57,38 @@ pub fn stands_alone(table: &[u32], n: usize, s: &[u8], row: usize) -> bool
         return false;
     }
     let w = rows::row_at(table, row);
-    if rows::number(w.end) != row + 1 {
-        return false;
-    }
-    is_alone(rules::shape_of(s, w), row, w.end)
+    rows::number(w.end) == row + 1 && is_alone(rules::shape_of(s, w), row, w.end)
 }
 
 // A reference: its entry is in force, and stands at the row that it says.
-pub fn check_reference(table: &[u32], row: usize, base: usize, around: usize, w: Row) -> Extent
+pub fn check_reference(
+    table: &[u32],
+    row: usize,
+    base: usize,
+    around: usize,
+    w: Row,
+) -> Option<usize>
     requires { (row ≤ lent table.now) × (row < limit) × Below table.now (first_in base) around row × Based table.now base around }
     ensures { result ≡ extent_of (pointing (chain table.now (first_in base) around) row (own_of w)) }
 {
     let number = rows::number(w.w0);
-    if number < around {
-        let entry = registry::entry_in(table, base, number, row);
-        if rows::number(w.w1) == entry {
-            return Extent::Until { next: row + 1 };
-        }
-        return Extent::Broken;
+    if around <= number {
+        return None;
     }
-    Extent::Broken
+    let entry = registry::entry_in(table, base, number, row);
+    (rows::number(w.w1) == entry).then_some(row + 1)
 }
 
 // The verdict of a damaged body is the number that reading it gave.
-fn verdict_is(row: usize, w: Row, number: u32) -> Extent
+fn verdict_is(row: usize, w: Row, number: u32) -> Option<usize>
     requires { row < limit }
     ensures { result ≡ verdict_is row w.w2 number }
 {
-    if w.w2 == number {
-        return Extent::Until { next: row + 1 };
-    }
-    Extent::Broken
+    (w.w2 == number).then_some(row + 1)
 }
 
 // A damaged foreign body: its bytes are measured where they stand.
-pub fn check_damaged(s: &[u8], row: usize, levels: usize, around: usize, w: Row) -> Extent
+pub fn check_damaged(s: &[u8], row: usize, levels: usize, around: usize, w: Row) -> Option<usize>
     requires { (row < limit) × (w.w0 + w.w1 ≤ length s.now) × (length s.now ≤ limit) }
     ensures { result ≡ extent_of (judged row (own_of w) (whole (w.w0 + w.w1) (value levels s.now (in_foreign around) w.w0 (w.w0 + w.w1)))) }
 {
@@ -122,5 +99,5 @@ pub fn check_damaged(s: &[u8], row: usize, levels: usize, around: usize, w: Row)
     if told::WRONG <= f {
         return verdict_is(row, w, told::number_in(f));
     }
-    Extent::Broken
+    None
 }

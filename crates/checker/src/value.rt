@@ -9,7 +9,6 @@ ghost use Rattle.rules.specs.Shape.{shape_of};
 ghost use Rattle.rules.specs.Grow.{item, grows, over_entries, by_shape, grow};
 ghost use Rattle.checker.specs.Inner.{EntriesBefore, EntriesBeforeChild, BasedForChild, extent_of, extent_all};
 
-use crate::extent::Extent;
 use crate::one::{check_damaged, check_key, check_reference, ends_at, stands_alone};
 use format::Children;
 use rows::Row;
@@ -25,15 +24,12 @@ pub fn check_value(
     levels: usize,
     base: usize,
     around: usize,
-) -> Extent
+) -> Option<usize>
     requires { EntriesBefore table.now n (first_in base) around row × Based table.now base around × (length s.now ≤ limit) }
     ensures { result ≡ extent_of (grow table.now n s.now levels (chain table.now (first_in base) around) row) }
 {
-    if levels == 0 {
-        return Extent::Broken;
-    }
-    if n <= row {
-        return Extent::Broken;
+    if levels == 0 || n <= row {
+        return None;
     }
     let w = rows::row_at(table, row);
     let shape = rules::shape_of(s, w);
@@ -53,14 +49,14 @@ fn check_row(
     around: usize,
     w: Row,
     shape: Shape,
-) -> Extent
+) -> Option<usize>
     requires entries_before { EntriesBefore table.now n (first_in base) around row × Based table.now base around × (row < n) × (length s.now ≤ limit) }
     requires shape_value { shape ≡ shape_of s.now (own_of w) }
     ensures { result ≡ extent_of (by_shape table.now n s.now (grow table.now n s.now levels) levels (chain table.now (first_in base) around) row (own_of w) shape) }
 {
     match shape {
-        Shape::Bad => Extent::Broken,
-        Shape::Leaf => Extent::Until { next: row + 1 },
+        Shape::Bad => None,
+        Shape::Leaf => Some(row + 1),
         Shape::Refer => check_reference(table, row, base, around, w),
         Shape::Hold { holder } => {
             let count = holder.children(rows::number(w.w0));
@@ -86,18 +82,13 @@ fn check_declared(
     row: usize,
     levels: usize,
     count: usize,
-) -> Extent
+) -> Option<usize>
     requires { (n ≤ lent table.now) × (n ≤ limit) × (row ≤ n) × (length s.now ≤ limit) }
     ensures { result ≡ extent_of (over_entries (grow table.now n s.now levels) (declaration_own count) row (grows table.now n s.now (grow table.now n s.now levels) Entries [] 0 count row)) }
 {
-    let es = check_children(table, n, s, row, levels, row, 0, Children::Entries, count);
-    match es {
-        Extent::Until { next } => {
-            let inside = registry::base_of(row, next, count);
-            check_value(table, n, s, next, levels, inside, count)
-        }
-        Extent::Broken => Extent::Broken,
-    }
+    let next = check_children(table, n, s, row, levels, row, 0, Children::Entries, count)?;
+    let inside = registry::base_of(row, next, count);
+    check_value(table, n, s, next, levels, inside, count)
 }
 
 // Child number i of a holder.
@@ -112,17 +103,15 @@ fn check_child(
     around: usize,
     children: Children,
     i: usize,
-) -> Extent
+) -> Option<usize>
     requires { EntriesBefore table.now n (first_in base) (in_force children around i) row × Based table.now base (in_force children around i) × (length s.now ≤ limit) }
     ensures { result ≡ extent_of (item table.now n s.now (is_key children i) (grow table.now n s.now levels) (chain table.now (first_in base) (in_force children around i)) row) }
 {
     if children.is_key(i) {
         return check_key(table, n, s, row);
     }
-    if 0 < levels {
-        if stands_alone(table, n, s, row) {
-            return Extent::Until { next: row + 1 };
-        }
+    if 0 < levels && stands_alone(table, n, s, row) {
+        return Some(row + 1);
     }
     check_value(table, n, s, row, levels, base, children.in_force(around, i))
 }
@@ -139,23 +128,13 @@ fn check_children(
     around: usize,
     children: Children,
     count: usize,
-) -> Extent
+) -> Option<usize>
     requires { EntriesBeforeChild table.now n (first_in base) around children 0 row × BasedForChild table.now base around children × (length s.now ≤ limit) }
     ensures { result ≡ extent_all (grows table.now n s.now (grow table.now n s.now levels) children (chain table.now (first_in base) (in_force children around 0)) 0 count row) }
 {
-    let mut i = 0;
     let mut here = row;
-    while i < count {
-        let g = check_child(table, n, s, here, levels, base, around, children, i);
-        match g {
-            Extent::Until { next } => {
-                here = next;
-                i += 1;
-            }
-            Extent::Broken => {
-                return Extent::Broken;
-            }
-        }
+    for i in 0..count {
+        here = check_child(table, n, s, here, levels, base, around, children, i)?;
     }
-    Extent::Until { next: here }
+    Some(here)
 }

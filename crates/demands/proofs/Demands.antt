@@ -1,5 +1,6 @@
 -- The three demands, each theorem under its words. An auditor reads this file, and the definitions that it names; the promises of the public
 -- functions (docs/PROMISES.md) say that the code does what these definitions say, on every input and to the end. Assumes nothing.
+use Rattle.std.specs.Prelude.{Ok, Err}
 use mathlib.Core.Path.{◌≡◌, refl, ap, ◌∙◌}
 use mathlib.Core.Bool.{Bool, true, false, cond}
 use mathlib.Core.Logic.{◌↔◌}
@@ -13,12 +14,14 @@ use borrow.Author.Tests.{le-leb, lt-leb, leb-true, leb-false}
 use Rattle.lists.specs.Zeroed.{zeroed}
 use Rattle.lists.proofs.Zeros.{zeroed-all}
 use Rattle.wide.proofs.Numbers.{Bytes}
+use Rattle.std.specs.Prelude.{Result, Ok, Err}
 use Rattle.rows.specs.Table.{row_at, lent, limit, own_of}
-use Rattle.format.specs.declared.answer.Answer.TheVariants.{Accepted, TooLong, Full}
+use Rattle.format.specs.declared.unfilled.Unfilled.TheVariants.{TooLong, Full}
 use Rattle.format.specs.Tree.{Tree, size}
 use Rattle.format.specs.Value.{Reading, right, wrong, document}
+use Rattle.std.specs.Prelude.{Ok, Err}
 use Rattle.format.specs.Layout.{layout}
-use Rattle.format.specs.declared.needed.Needed.TheVariants as needs
+use Rattle.format.specs.declared.unmeasured.Unmeasured.TheVariants as measuring
 use Rattle.format.specs.Answer.{answer, answer_for, answer_number, answer_beside, filled, table_after, needed, needed_for, needed_number, needed_beside}
 use Rattle.format.specs.Starred.{starred}
 use Rattle.format.proofs.Values.{document-next, verdict_high}
@@ -26,11 +29,10 @@ use Rattle.rules.specs.Shape.{named}
 use Rattle.rules.specs.Grow.{rules_hold}
 use Rattle.rules.specs.Obeys.{Stands}
 use Rattle.rules.proofs.Exact as exact
-use Rattle.checker.specs.declared.checked.Checked.TheVariants.{Right}
 use Rattle.checker.specs.Checked.{checked}
 use Rattle.checker.proofs.Answers as check
 use Rattle.walker.specs.declared.standing.Standing.{Standing}
-use Rattle.walker.specs.declared.step.Step.TheVariants.{To, NoStep}
+use Rattle.walker.specs.declared.unmoved.Unmoved.TheVariants.{NoStep}
 use Rattle.walker.specs.Walk.{standing, start_of, step_on, step_along}
 use Rattle.walker.proofs.Along.{reached}
 use Rattle.resolve.specs.Resolve.{resolve}
@@ -42,8 +44,7 @@ use Rattle.walks.proofs.Resolves as resolves
 use Rattle.walks.proofs.Along as along
 use Rattle.encode.specs.Encode.{has_bytes}
 use Rattle.spell.specs.Inner.{Inside}
-use Rattle.writer.specs.declared.written.Written.{Written}
-use Rattle.writer.specs.declared.written.Written.TheVariants.{Done, BadTable, TooLarge, NoRoom}
+use Rattle.writer.specs.declared.unwritten.Unwritten.{Unwritten}
 use Rattle.writer.specs.Written.{document_of, written, left, output_after}
 use Rattle.writer.proofs.Asks.{yes_inside}
 use Rattle.demands.specs.Alike.{SameRows}
@@ -57,31 +58,29 @@ use Rattle.demands.proofs.Starred as cases
 
 module _ (depth : ℕ) (s table : List ℕ) where
   -- "A refused read leaves the table all zeros"
-  pub refused_read_zeroes : ((n : ℕ) → answer depth s table ≡ Accepted n → ⊥) → table_after depth s table ≡ replicate (length table) 0
+  pub refused_read_zeroes : ((n : ℕ) → answer depth s table ≡ Ok n → ⊥) → table_after depth s table ≡ replicate (length table) 0
   unfolding answer table_after
   refused_read_zeroes = of (leb (length s) limit) (document depth s)
     where
-      fill : (b : Bool) (t : Tree) → ((n : ℕ) → cond b (Accepted (size t)) (Full (size t)) ≡ Accepted n → ⊥)
+      fill : (b : Bool) (t : Tree) → ((n : ℕ) → cond b (Ok (size t)) (Err (Full (size t))) ≡ Ok n → ⊥)
           → cond b (sets (zeroed 0 table) 0 (layout t 0 [])) (zeroed 0 table) ≡ replicate (length table) 0
       fill true t f = absurd (f (size t) refl)
       fill false t f = zeroed-all table
 
-      of : (b : Bool) (r : Reading) → ((n : ℕ) → cond b (answer_for (lent table) r) TooLong ≡ Accepted n → ⊥)
+      of : (b : Bool) (r : Reading) → ((n : ℕ) → cond b (answer_for (lent table) r) (Err TooLong) ≡ Ok n → ⊥)
           → cond b (filled (lent table) r table) (zeroed 0 table) ≡ replicate (length table) 0
       of true (right t next) f = fill (leb (size t) (lent table)) t f
       of true (wrong e place) f = zeroed-all table
       of false r f = zeroed-all table
 
 -- "a refused write the output untouched"
-pub refused_write_keeps : (depth : ℕ) (table : List ℕ) (n : ℕ) (s out : List ℕ) → ((used : ℕ) → written depth table n s (length out) ≡ Done used → ⊥) → output_after depth table n s out ≡ out
+pub refused_write_keeps : (depth : ℕ) (table : List ℕ) (n : ℕ) (s out : List ℕ) → ((used : ℕ) → written depth table n s (length out) ≡ Ok used → ⊥) → output_after depth table n s out ≡ out
 unfolding output_after
 refused_write_keeps depth table n s out = of (written depth table n s (length out))
   where
-    of : (w : Written) → ((used : ℕ) → w ≡ Done used → ⊥) → left w (document_of depth table n s) out ≡ out
-    of (Done used) f = absurd (f used refl)
-    of BadTable f = refl
-    of (TooLarge needed) f = refl
-    of (NoRoom needed) f = refl
+    of : (w : Result ℕ Unwritten) → ((used : ℕ) → w ≡ Ok used → ⊥) → left w (document_of depth table n s) out ≡ out
+    of (Ok used) f = absurd (f used refl)
+    of (Err why) f = refl
 
 -- ==== Demand 2
 
@@ -94,7 +93,7 @@ pub record Document (depth : ℕ) (s : List ℕ) (rows : ℕ) : Type 0 where
 
 module _ (depth : ℕ) (s table : List ℕ) where
   -- "The reader accepts exactly the paper's documents, to the last byte": those whose rows are lent
-  pub accepts_exactly : (n : ℕ) → (answer depth s table ≡ Accepted n) ↔ (Document depth s n × (n ≤ lent table))
+  pub accepts_exactly : (n : ℕ) → (answer depth s table ≡ Ok n) ↔ (Document depth s n × (n ≤ lent table))
   unfolding answer
   accepts_exactly n = (
     λ e.
@@ -112,25 +111,25 @@ module _ (depth : ℕ) (s table : List ℕ) where
   gives_rows n d room =
       rw (le-leb (length s) limit d.few, d.reads, le-leb (size d.tree) (lent table) (omega (arith, d.rows_are, room)), zeroed-all table)
 
-  full-right : (needed : ℕ) → answer depth s table ≡ Full needed → Document depth s needed × (lent table < needed)
+  full-right : (needed : ℕ) → answer depth s table ≡ Err (Full needed) → Document depth s needed × (lent table < needed)
   unfolding answer
   full-right needed = of (leb (length s) limit) (document depth s) refl refl
     where
       room : (b : Bool) (t : Tree) (next : ℕ) → leb (size t) (lent table) ≡ b → length s ≤ limit → document depth s ≡ right t next
-          → cond b (Accepted (size t)) (Full (size t)) ≡ Full needed → Document depth s needed × (lent table < needed)
+          → cond b (Ok (size t)) (Err (Full (size t))) ≡ Err (Full needed) → Document depth s needed × (lent table < needed)
       room true t next q l e f = absurd (let z : ◌≡◌ {A = ℕ} 0 1 = cc in omega arith)
       room false t next q l e f =
           let k : size t ≡ needed = cc in
           (record { few = l; tree = t; reads = e ∙ ap (right t) (document-next depth s t next e); rows_are = k }, omega (arith, k, leb-false (size t) (lent table) q))
 
-      of : (b : Bool) (r : Reading) → leb (length s) limit ≡ b → document depth s ≡ r → cond b (answer_for (lent table) r) TooLong ≡ Full needed
+      of : (b : Bool) (r : Reading) → leb (length s) limit ≡ b → document depth s ≡ r → cond b (answer_for (lent table) r) (Err TooLong) ≡ Err (Full needed)
           → Document depth s needed × (lent table < needed)
       of true (right t next) l e f = room (leb (size t) (lent table)) t next refl (leb-true (length s) limit l) e f
       of true (wrong y place) l e f = absurd (let z : ◌≡◌ {A = ℕ} 0 1 = cc in omega arith)
       of false r l e f = absurd (let z : ◌≡◌ {A = ℕ} 0 1 = cc in omega arith)
 
   -- "full is said only when the whole document is right and needs more rows than lent", and always then, with the rows needed
-  pub full_exactly : (needed : ℕ) → (answer depth s table ≡ Full needed) ↔ (Document depth s needed × (lent table < needed))
+  pub full_exactly : (needed : ℕ) → (answer depth s table ≡ Err (Full needed)) ↔ (Document depth s needed × (lent table < needed))
   unfolding answer
   full_exactly needed = (
     full-right needed,
@@ -140,7 +139,7 @@ module _ (depth : ℕ) (s table : List ℕ) where
   )
 
   -- what filling lays passes the check
-  pub read_passes : (n : ℕ) → answer depth s table ≡ Accepted n → rules_hold depth (table_after depth s table) n s ≡ true
+  pub read_passes : (n : ℕ) → answer depth s table ≡ Ok n → rules_hold depth (table_after depth s table) n s ≡ true
   read_passes n e = exact.read_yes depth s table n e
 
 -- ==== Request §9: measuring, and filling
@@ -151,17 +150,17 @@ module _ (depth : ℕ) (s : List ℕ) where
   unfolding needed
   never_full e = of (leb (length s) limit) (document depth s) e
     where
-      of : (b : Bool) (r : Reading) → needed_number (cond b (needed_for r) needs.TooLong) ≡ 11 → ⊥
+      of : (b : Bool) (r : Reading) → needed_number (cond b (needed_for r) (Err measuring.TooLong)) ≡ 11 → ⊥
       of true (right t next) e = omega arith
       of true (wrong y place) e = omega (arith, verdict_high y)
       of false r e = omega arith
 
   -- "measuring .. answers the rows": exactly those of the paper's documents
-  pub measures_exactly : (n : ℕ) → (needed depth s ≡ needs.Rows n) ↔ Document depth s n
+  pub measures_exactly : (n : ℕ) → (needed depth s ≡ Ok n) ↔ Document depth s n
   unfolding needed
   measures_exactly n = (of (leb (length s) limit) (document depth s) refl refl, λ d. rw (le-leb (length s) limit d.few, d.reads, d.rows_are))
     where
-      of : (b : Bool) (r : Reading) → leb (length s) limit ≡ b → document depth s ≡ r → cond b (needed_for r) needs.TooLong ≡ needs.Rows n → Document depth s n
+      of : (b : Bool) (r : Reading) → leb (length s) limit ≡ b → document depth s ≡ r → cond b (needed_for r) (Err measuring.TooLong) ≡ Ok n → Document depth s n
       of true (right t next) l e f =
           let k : size t ≡ n = cc in
           record { few = leb-true (length s) limit l; tree = t; reads = e ∙ ap (right t) (document-next depth s t next e); rows_are = k }
@@ -170,18 +169,18 @@ module _ (depth : ℕ) (s : List ℕ) where
 
   module _ (table : List ℕ) where
     -- filling accepts exactly when measuring gives rows and they are lent, and the same number of them
-    pub fills_exactly : (n : ℕ) → (answer depth s table ≡ Accepted n) ↔ ((needed depth s ≡ needs.Rows n) × (n ≤ lent table))
+    pub fills_exactly : (n : ℕ) → (answer depth s table ≡ Ok n) ↔ ((needed depth s ≡ Ok n) × (n ≤ lent table))
     fills_exactly n = (
       λ e. let d = (accepts_exactly depth s table n).0 e in ((measures_exactly n).1 d.0, d.1),
       λ m. (accepts_exactly depth s table n).1 ((measures_exactly n).0 m.0, m.1),
     )
 
     -- "A table of exactly the measured rows is never too small."
-    pub never_too_small : (n : ℕ) → needed depth s ≡ needs.Rows n → lent table ≡ n → answer depth s table ≡ Accepted n
+    pub never_too_small : (n : ℕ) → needed depth s ≡ Ok n → lent table ≡ n → answer depth s table ≡ Ok n
     never_too_small n m e = (fills_exactly n).1 (m, omega (arith, e))
 
     -- it says 11 exactly when they are not, with the rows that measuring gives
-    pub full_measured : (n : ℕ) → (answer depth s table ≡ Full n) ↔ ((needed depth s ≡ needs.Rows n) × (lent table < n))
+    pub full_measured : (n : ℕ) → (answer depth s table ≡ Err (Full n)) ↔ ((needed depth s ≡ Ok n) × (lent table < n))
     full_measured n = (
       λ e. let d = (full_exactly depth s table n).0 e in ((measures_exactly n).1 d.0, d.1),
       λ m. (full_exactly depth s table n).1 ((measures_exactly n).0 m.0, m.1),
@@ -193,9 +192,9 @@ module _ (depth : ℕ) (s : List ℕ) where
     unfolding needed answer
     refused_alike h = of (leb (length s) limit) (document depth s) h
       where
-        of : (b : Bool) (r : Reading) → (needed_number (cond b (needed_for r) needs.TooLong) ≡ 0 → ⊥)
-            → (answer_number (cond b (answer_for (lent table) r) TooLong) ≡ needed_number (cond b (needed_for r) needs.TooLong))
-            × (answer_beside (cond b (answer_for (lent table) r) TooLong) ≡ needed_beside (cond b (needed_for r) needs.TooLong))
+        of : (b : Bool) (r : Reading) → (needed_number (cond b (needed_for r) (Err measuring.TooLong)) ≡ 0 → ⊥)
+            → (answer_number (cond b (answer_for (lent table) r) (Err TooLong)) ≡ needed_number (cond b (needed_for r) (Err measuring.TooLong)))
+            × (answer_beside (cond b (answer_for (lent table) r) (Err TooLong)) ≡ needed_beside (cond b (needed_for r) (Err measuring.TooLong)))
         of true (right t next) h = absurd (h refl)
         of true (wrong y place) h = (refl, refl)
         of false r h = (refl, refl)
@@ -206,13 +205,13 @@ module _ (depth : ℕ) (s : List ℕ) where
     unfolding needed answer
     refused_both h g = of (leb (length s) limit) (document depth s) h g
       where
-        room : (b : Bool) (t : Tree) → (answer_number (cond b (Accepted (size t)) (Full (size t))) ≡ 0 → ⊥) → (answer_number (cond b (Accepted (size t)) (Full (size t))) ≡ 11 → ⊥) → ⊥
+        room : (b : Bool) (t : Tree) → (answer_number (cond b (Ok (size t)) (Err (Full (size t)))) ≡ 0 → ⊥) → (answer_number (cond b (Ok (size t)) (Err (Full (size t)))) ≡ 11 → ⊥) → ⊥
         room true t h g = h refl
         room false t h g = g refl
 
-        of : (b : Bool) (r : Reading) → (answer_number (cond b (answer_for (lent table) r) TooLong) ≡ 0 → ⊥) → (answer_number (cond b (answer_for (lent table) r) TooLong) ≡ 11 → ⊥)
-            → (answer_number (cond b (answer_for (lent table) r) TooLong) ≡ needed_number (cond b (needed_for r) needs.TooLong))
-            × (answer_beside (cond b (answer_for (lent table) r) TooLong) ≡ needed_beside (cond b (needed_for r) needs.TooLong))
+        of : (b : Bool) (r : Reading) → (answer_number (cond b (answer_for (lent table) r) (Err TooLong)) ≡ 0 → ⊥) → (answer_number (cond b (answer_for (lent table) r) (Err TooLong)) ≡ 11 → ⊥)
+            → (answer_number (cond b (answer_for (lent table) r) (Err TooLong)) ≡ needed_number (cond b (needed_for r) (Err measuring.TooLong)))
+            × (answer_beside (cond b (answer_for (lent table) r) (Err TooLong)) ≡ needed_beside (cond b (needed_for r) (Err measuring.TooLong)))
         of true (right t next) h g = absurd (room (leb (size t) (lent table)) t h g)
         of true (wrong y place) h g = (refl, refl)
         of false r h g = (refl, refl)
@@ -223,7 +222,7 @@ module _ (depth : ℕ) (table : List ℕ) (n : ℕ) (s : List ℕ) (fit : (i : �
   reads_back room back = backs.reads_back depth table n s room back _ _ fit refl refl
 
 -- "no document with those is shorter": with the same rows, places aside, and the same payload bytes
-pub nothing_shorter : (depth : ℕ) (table : List ℕ) (n : ℕ) (s : List ℕ) → rules_hold depth table n s ≡ true → (s' : List ℕ) → Bytes s' → (table' : List ℕ) → answer depth s' table' ≡ Accepted n
+pub nothing_shorter : (depth : ℕ) (table : List ℕ) (n : ℕ) (s : List ℕ) → rules_hold depth table n s ≡ true → (s' : List ℕ) → Bytes s' → (table' : List ℕ) → answer depth s' table' ≡ Ok n
     → SameRows table s (table_after depth s' table') s' n → length (document_of depth table n s) ≤ length s'
 nothing_shorter = reading.nothing_shorter
 
@@ -235,10 +234,10 @@ starred-hold = cases.starred-hold
 
 module _ (depth : ℕ) (table : List ℕ) (n : ℕ) (s : List ℕ) where
   -- "The check says yes exactly when the row rules hold": the first n rows are those of a right tree
-  pub yes_means : checked depth table n s ≡ Right n → (t : Tree) × Stands depth table n s t
+  pub yes_means : checked depth table n s ≡ Ok n → (t : Tree) × Stands depth table n s t
   yes_means e = check.yes_stands depth table n s n e
 
-  pub right_means_yes : (t : Tree) → Stands depth table n s t → checked depth table n s ≡ Right n
+  pub right_means_yes : (t : Tree) → Stands depth table n s t → checked depth table n s ≡ Ok n
   right_means_yes t st = check.stands_yes depth table n s t st
 
   pub one_tree : (t u : Tree) → Stands depth table n s t → Stands depth table n s u → t ≡ u
@@ -254,7 +253,7 @@ module _ (depth : ℕ) (table : List ℕ) (n : ℕ) (s : List ℕ) where
     walks_inside = meets.steps_inside depth table n s t st
 
     -- "or 14", from a row reached along: its bound is the entry's own end, and on is 14 always
-    pub on_from_along : (at : Standing) (row bound : ℕ) → step_along table n at ≡ To row bound → (bound ≡ (row_at table row).end) × (step_on table n (standing row bound) ≡ NoStep)
+    pub on_from_along : (at : Standing) (row bound : ℕ) → step_along table n at ≡ Ok (standing row bound) → (bound ≡ (row_at table row).end) × (step_on table n (standing row bound) ≡ Err NoStep)
     on_from_along at row bound e = ((reached table n at row bound e).end, along.on_none depth table n s t st at row bound e)
 
     -- the payload of a row that a walk comes to is the tree's

@@ -1,4 +1,5 @@
 -- A document that was written reads back, and no document that is read as it says is shorter: over tables. Assumes nothing.
+use Rattle.std.specs.Prelude.{Ok}
 use mathlib.Core.Path.{◌≡◌, sym, ap, ◌∙◌, subst}
 use mathlib.Core.Bool.{true}
 use mathlib.Core.List.{List, []}
@@ -8,7 +9,6 @@ use lib.ListN.{length, get_or, drop}
 use borrow.Author.Tests.{le-leb}
 use Rattle.wide.proofs.Numbers.{Bytes}
 use Rattle.rows.specs.Table.{words_per_row, lent, limit}
-use Rattle.format.specs.declared.answer.Answer.TheVariants.{Accepted}
 use Rattle.format.specs.Tree.{Tree, size}
 use Rattle.format.specs.Value.{document, right}
 use Rattle.format.specs.Answer.{answer, table_after}
@@ -56,7 +56,7 @@ module _ (depth : ℕ) (table : List ℕ) (n : ℕ) (s : List ℕ) (fit : (i : �
       rows = placed_size s t 0 ∙ st.rows
 
       -- it is accepted
-      pub accepted_back : answer depth D back ≡ Accepted n
+      pub accepted_back : answer depth D back ≡ Ok n
       unfolding answer
       accepted_back = rw (le-leb (length D) limit few, reads, le-leb (size (placed s t 0)) (lent back) (omega (arith, rows)), rows)
 
@@ -77,7 +77,7 @@ module _ (depth : ℕ) (table : List ℕ) (n : ℕ) (s : List ℕ) (fit : (i : �
       rules_back = stands_yes depth (table_after depth D back) n D (placed s t 0) stands_back
 
 -- every document whose rows are the same, places aside, with the same payload bytes, has at least as many bytes
-pub nothing_shorter : (depth : ℕ) (table : List ℕ) (n : ℕ) (s : List ℕ) → rules_hold depth table n s ≡ true → (s' : List ℕ) → Bytes s' → (table' : List ℕ) → answer depth s' table' ≡ Accepted n
+pub nothing_shorter : (depth : ℕ) (table : List ℕ) (n : ℕ) (s : List ℕ) → rules_hold depth table n s ≡ true → (s' : List ℕ) → Bytes s' → (table' : List ℕ) → answer depth s' table' ≡ Ok n
     → SameRows table s (table_after depth s' table') s' n → length (document_of depth table n s) ≤ length s'
 nothing_shorter depth table n s y s' b table' e same =
     let t : Tree = (yes_stands depth table n s y).0 in

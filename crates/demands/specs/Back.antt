@@ -1,28 +1,25 @@
 -- What writing a table and reading its document back answers. Assumes nothing: these are definitions.
-use Rattle.std.specs.Prelude.{◌≡◌, true, List, ℕ, ◌≤◌, length}
+use Rattle.std.specs.Prelude.{◌≡◌, true, List, ℕ, ◌≤◌, length, Result, Ok, Err}
 use Rattle.rows.specs.Table.{lent, limit}
-use Rattle.format.specs.declared.answer.Answer.TheVariants.{Accepted}
+use Rattle.format.specs.declared.unfilled.Unfilled.{Unfilled}
 use Rattle.format.specs.Answer.{answer, table_after}
 use Rattle.rules.specs.Grow.{rules_hold}
-use Rattle.writer.specs.declared.written.Written.{Written}
-use Rattle.writer.specs.declared.written.Written.TheVariants.{Done, BadTable, TooLarge, NoRoom}
+use Rattle.writer.specs.declared.unwritten.Unwritten.{Unwritten}
 use Rattle.writer.specs.Written.{document_of, written}
-use Rattle.demands.specs.declared.back.Back.{Back}
-use Rattle.demands.specs.declared.back.Back.TheVariants.{Unwritten, Read}
 use Rattle.demands.specs.Alike.{SameRows}
 
--- by what writing answers: the document is read into the table `back`, or there is none
-abbrev pub read_back : ℕ → Written → List ℕ → List ℕ → Back
-read_back depth (Done used) document back = Read (answer depth document back)
-read_back depth BadTable document back = Unwritten BadTable
-read_back depth (TooLarge needed) document back = Unwritten (TooLarge needed)
-read_back depth (NoRoom needed) document back = Unwritten (NoRoom needed)
+-- the table was not written, or it was, and reading its document answers this
+abbrev pub Back : Type 0
+Back = Result (Result ℕ Unfilled) Unwritten
 
-abbrev pub back_after : ℕ → Written → List ℕ → List ℕ → List ℕ
-back_after depth (Done used) document back = table_after depth document back
-back_after depth BadTable document back = back
-back_after depth (TooLarge needed) document back = back
-back_after depth (NoRoom needed) document back = back
+-- by what writing answers: the document is read into the table `back`, or there is none
+abbrev pub read_back : ℕ → Result ℕ Unwritten → List ℕ → List ℕ → Back
+read_back depth (Ok used) document back = Ok (answer depth document back)
+read_back depth (Err why) document back = Err why
+
+abbrev pub back_after : ℕ → Result ℕ Unwritten → List ℕ → List ℕ → List ℕ
+back_after depth (Ok used) document back = table_after depth document back
+back_after depth (Err why) document back = back
 
 unfoldable pub back_of : ℕ → List ℕ → ℕ → List ℕ → ℕ → List ℕ → Back
 back_of depth table n s room back = read_back depth (written depth table n s room) (document_of depth table n s) back
@@ -33,7 +30,7 @@ table_back depth table n s room back = back_after depth (written depth table n s
 -- "A table that passes the check, written with room and within the size limit, reads back as the same rows and payload bytes, places aside":
 -- into a table of n rows or more
 pub record Again (depth : ℕ) (table : List ℕ) (n : ℕ) (s : List ℕ) (r : Back) (after : List ℕ) : Type 0 where
-  pub accepted : r ≡ Read (Accepted n)
+  pub accepted : r ≡ Ok (Ok n)
   pub rows : SameRows table s after (document_of depth table n s) n
   -- they obey the row rules too
   pub right : rules_hold depth after n (document_of depth table n s) ≡ true

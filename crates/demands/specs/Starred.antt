@@ -1,22 +1,19 @@
 -- The paper's starred cases, read and written again. The list itself is `format/Starred.starred`. Assumes nothing: these are definitions.
-use Rattle.std.specs.Prelude.{Bool, true, false, cond, ◌&&◌, List, [], ◌∷◌, ◌++◌, ℕ, ◌-◌, length, replicate, eqb}
-use Rattle.format.specs.declared.answer.Answer.{Answer}
-use Rattle.format.specs.declared.answer.Answer.TheVariants.{Accepted, TooLong, Refused, Full}
+use Rattle.std.specs.Prelude.{Bool, true, false, cond, ◌&&◌, List, [], ◌∷◌, ◌++◌, ℕ, ◌-◌, length, replicate, eqb, Result, Ok, Err}
+use Rattle.format.specs.declared.unfilled.Unfilled.{Unfilled}
 use Rattle.format.specs.Answer.{depth_limit, answer, table_after}
 use Rattle.format.specs.Starred.{Case}
 use Rattle.writer.specs.Written.{document_of}
 
 -- the answer of the reader, the table afterwards, and what the writer makes of that table over the same bytes
 pub record Outcome : Type 0 where
-  pub says : Answer
+  pub says : Result ℕ Unfilled
   pub table : List ℕ
   pub again : List ℕ
 
-abbrev pub rows_read : Answer → ℕ
-rows_read (Accepted rows) = rows
-rows_read TooLong = 0
-rows_read (Refused e place) = 0
-rows_read (Full needed) = 0
+abbrev pub rows_read : Result ℕ Unfilled → ℕ
+rows_read (Ok rows) = rows
+rows_read (Err why) = 0
 
 abbrev pub outcome : Case → Outcome
 outcome c =
@@ -36,11 +33,9 @@ same_bytes (x ∷ xs) (y ∷ ys) = eqb x y && same_bytes xs ys
 abbrev pub shortest : List ℕ → List ℕ
 shortest bytes = cond (same_bytes bytes (0x18 ∷ 0x40 ∷ [])) (0x7f ∷ []) bytes
 
-abbrev pub written_again : Answer → List ℕ → List ℕ
-written_again (Accepted rows) bytes = shortest bytes
-written_again TooLong bytes = []
-written_again (Refused e place) bytes = []
-written_again (Full needed) bytes = []
+abbrev pub written_again : Result ℕ Unfilled → List ℕ → List ℕ
+written_again (Ok rows) bytes = shortest bytes
+written_again (Err why) bytes = []
 
 -- the used rows, and zeros behind them
 abbrev pub wanted : Case → Outcome

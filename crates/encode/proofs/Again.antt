@@ -1,4 +1,5 @@
 -- A right tree that is written reads back, with its new places, up to the end of its bytes. By induction on the tree. Assumes nothing.
+use Rattle.std.specs.Prelude.{Ok}
 use mathlib.Core.Path.{◌≡◌, refl, sym, ap, ap₂, ◌∙◌, subst}
 use Prim.Native.Nat.{ℕ, zero, suc, ◌+◌, ◌-◌, ◌≤◌, ◌<◌}
 use native.Mathlib.Omega.{arith}
@@ -96,7 +97,7 @@ module _ (s s' : List ℕ) (d k at stop : ℕ) (short : length s' ≤ limit) whe
       ≡ framed (at + length (form foreign_length n)) n (whole (at + length (form foreign_length n) + n) (value d s' (in_foreign k) (at + length (form foreign_length n)) (at + length (form foreign_length n) + n)))
   foreign_read B n long h =
       let p : ℕ = at + length (form foreign_length n) in
-      let e : head_at s' at stop ≡ stand.Foreign p n =
+      let e : head_at s' at stop ≡ Ok (stand.Foreign p n) =
       foreign-front s' at stop n (payload_few s' at stop (form foreign_length n) B n h long short) (stand_first s' at stop (form foreign_length n) B h)
       ∙ rw (le-leb n (stop - p) (omega (arith, h.room, length-append (form foreign_length n) B, long))) in
       clauses.value-foreign d s' k at stop (head_at s' at stop) refl p n e
@@ -166,7 +167,7 @@ child-again s s' short t own d c k i at stop f w h = of (is_key c i) f
 -- ---- holders
 
 -- the head of each holder
-holder_front : (s : List ℕ) (at stop n : ℕ) → n ≤ limit → (h : Holder) → Stand s at stop (form (holder_count h) n) → head_at s at stop ≡ stand.Hold h n (at + length (form (holder_count h) n))
+holder_front : (s : List ℕ) (at stop n : ℕ) → n ≤ limit → (h : Holder) → Stand s at stop (form (holder_count h) n) → head_at s at stop ≡ Ok (stand.Hold h n (at + length (form (holder_count h) n)))
 holder_front s at stop n few Array g = array-front s at stop n few g
 holder_front s at stop n few Record g = record_front s at stop n few g
 holder_front s at stop n few Map g = map-front s at stop n few g
@@ -217,7 +218,7 @@ module _ (s s' : List ℕ) (short : length s' ≤ limit) where
       let U : List ℕ = encode s t in
       let p : ℕ = at + length F in
       let g' = stand_second s' at stop F (E ++ U) g in
-      let head : head_at s' at stop ≡ stand.Declare n p =
+      let head : head_at s' at stop ≡ Ok (stand.Declare n p) =
       declaration_front s' at stop n few (stand_first s' at stop F (E ++ U) g) ∙ rw (ne_eqb n 0 (λ z. omega arith)) in
       let r : readings (value d s') Entries s' 0 0 n p stop ≡ ran (placeds s es p) (p + length E) =
       ap (λ (i : ℕ). readings (value d s') Entries s' 0 0 i p stop) (sym num) ∙ owns d Entries 0 0 p stop f w (stand_first s' p stop E U g') in

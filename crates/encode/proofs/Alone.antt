@@ -1,6 +1,7 @@
 -- A foreign body is what its own bytes are, under the levels left: nothing around it is seen in it (request §2). It reads as they read alone. Its
 -- rows are those that they have alone, moved, and stand as a table of their own; its verdict is why they are refused. By induction on the tree.
 -- Assumes nothing.
+use Rattle.std.specs.Prelude.{Ok}
 use mathlib.Core.Path.{◌≡◌, refl, sym, ap, ap₂, ◌∙◌, subst}
 use Prim.Native.Nat.{ℕ, zero, suc, ◌+◌, ◌-◌, ◌*◌, ◌≤◌, ◌<◌}
 use native.Mathlib.Omega.{arith}
@@ -56,14 +57,14 @@ body-alone depth s around place n l =
     ∙ ap (λ (m : ℕ). reading_further place (whole m (value (suc depth) (take n (drop place s)) 0 0 m))) (sym (part-long s place n l))
 
 -- a position that holds one
-pub foreign-alone : (depth : ℕ) (s : List ℕ) (around at stop place n : ℕ) → stop ≤ length s → head_at s at stop ≡ Foreign place n
+pub foreign-alone : (depth : ℕ) (s : List ℕ) (around at stop place n : ℕ) → stop ≤ length s → head_at s at stop ≡ Ok (Foreign place n)
     → value (suc (suc depth)) s around at stop ≡ framed place n (reading_further place (document depth (take n (drop place s))))
 foreign-alone depth s around at stop place n l e =
-    let w : Stood s at stop (Foreign place n) = subst (Stood s at stop) e (head_stood s at stop) in
+    let w : Stood s at stop (Ok (Foreign place n)) = subst (Stood s at stop) e (head_stood s at stop) in
     clauses.value-foreign (suc depth) s around at stop (head_at s at stop) refl place n e ∙ ap (framed place n) (body-alone depth s around place n (omega (arith, w.within)))
 
 -- and one with no level left is damaged for that, whatever its bytes
-pub foreign_deep : (s : List ℕ) (around at stop place n : ℕ) → head_at s at stop ≡ Foreign place n
+pub foreign_deep : (s : List ℕ) (around at stop place n : ℕ) → head_at s at stop ≡ Ok (Foreign place n)
     → value (suc zero) s around at stop ≡ right (damaged (damaged_own place n (refusal_number why.Deep))) (place + n)
 unfolding value
 foreign_deep s around at stop place n e = clauses.value-damaged zero s around at stop (head_at s at stop) refl place n e why.Deep place refl

@@ -1,4 +1,5 @@
 -- What is written reads back: the tree with its new places, up to the end of its bytes. By induction on the tree. Assumes nothing.
+use Rattle.std.specs.Prelude.{Ok}
 use mathlib.Core.Path.{◌≡◌, refl, sym, ap, ap₂, ◌∙◌, subst}
 use Prim.Native.Nat.{ℕ, suc, ◌+◌, ◌-◌, ◌≤◌, ◌<◌}
 use native.Mathlib.Omega.{arith}
@@ -21,9 +22,8 @@ use Rattle.wide.proofs.Runs.{byte-number}
 use Rattle.wide.proofs.Wides.{Words, wide_value, value_lt}
 use Rattle.wide.proofs.Sound.{sound_integers}
 use Rattle.wide.proofs.Numbers.{length-bytes_of}
-use Rattle.text.specs.declared.answer.Text.{Text}
-use Rattle.text.specs.declared.answer.Text.TheVariants.{WellFormed, IllFormed}
-use Rattle.text.specs.Check.{text_of, well_formed}
+use Rattle.std.specs.Prelude.{Ok, Err}
+use Rattle.text.specs.Check.{Text, text_of, well_formed}
 use Rattle.rows.specs.Table.{Own, with_place, limit}
 use Rattle.rows.specs.Kinds.{kind_small, kind_signed, kind_unsigned, kind_float, kind_text, kind_binary, kind_char, span_own}
 use Rattle.format.specs.declared.head.Content.{Content}
@@ -51,9 +51,9 @@ use Rattle.encode.proofs.Leaves.{constant_back, text_back, binary_back, float_ba
 pub part-long : (s : List ℕ) (place n : ℕ) → place + n ≤ length s → length (take n (drop place s)) ≡ n
 part-long s place n h = length-take-le n (drop place s) (omega (arith, length-drop place s))
 
-well : (t : Text) → well_formed t ≡ true → t ≡ WellFormed
-well WellFormed e = refl
-well (IllFormed k) e = cc
+well : (t : Text) → well_formed t ≡ true → t ≡ Ok tt
+well (Ok u) e = refl
+well (Err i) e = cc
 
 by_size : (P : ℕ → Type 0) (n : ℕ) → one_of float_sizes n ≡ true → P 2 → P 4 → P 8 → P 16 → P 32 → P n
 unfolding one_of
@@ -75,7 +75,7 @@ not_false false e = refl
 -- what a text or a key spells
 pub record SpeltRight (s : List ℕ) (o : Own) : Type 0 where
   pub long : length (take o.w1 (drop o.w0 s)) ≡ o.w1
-  pub said : text_of (take o.w1 (drop o.w0 s)) ≡ WellFormed
+  pub said : text_of (take o.w1 (drop o.w0 s)) ≡ Ok tt
 
 pub spelling : (s : List ℕ) (o : Own) → spelt s o ≡ true → SpeltRight s o
 unfolding spelt
@@ -112,7 +112,7 @@ module _ (s s' : List ℕ) (d k at stop : ℕ) (short : length s' ≤ limit) (o 
   unfolding N
   low = value_lt (words o.w0 o.w1 o.w2 o.w3) bounded
 
-  by_head : (c : Content) (next m : ℕ) (p : Own) → head_at s' at stop ≡ stand.Leaf c next → leaf_own s' c ≡ p → next ≡ m → value (suc d) s' k at stop ≡ right (leaf p) m
+  by_head : (c : Content) (next m : ℕ) (p : Own) → head_at s' at stop ≡ Ok (stand.Leaf c next) → leaf_own s' c ≡ p → next ≡ m → value (suc d) s' k at stop ≡ right (leaf p) m
   by_head c next m p e q r = clauses.value-leaf d s' k at stop (head_at s' at stop) refl c next e ∙ ap₂ (λ (x : Own) (j : ℕ). right (leaf x) j) q r
 
   wide_own : (j : ℕ) (x : Wide) → x ≡ words o.w0 o.w1 o.w2 o.w3 → j ≡ o.kind → integer_own j x ≡ o

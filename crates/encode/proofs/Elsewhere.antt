@@ -1,5 +1,6 @@
 -- Reading goes by the bytes, the entries in force and the levels left: the same bytes elsewhere, with as many of both, read as the same tree with
 -- its places as far on, or are refused for the same reason as far on. By induction on the levels left. Assumes nothing.
+use Rattle.std.specs.Prelude.{Result, Ok, Err}
 use mathlib.Core.Path.{◌≡◌, refl, sym, ap, ap₂, ◌∙◌}
 use Prim.Native.Nat.{ℕ, zero, suc, ◌+◌, ◌-◌, ◌≤◌, ◌<◌}
 use native.Mathlib.Omega.{arith}
@@ -16,25 +17,23 @@ use Rattle.wide.specs.Family.{Family, Coded, is, short, other, coded, has_number
 use Rattle.wide.specs.Members.{text_length, binary_length, array_count, record_count, map_count, key_length, reference_number, declaration_count, foreign_length, integer}
 use Rattle.wide.proofs.Ranks.{bool_case}
 use borrow.Author.Tests.{leb-true, ltb-true, ltb-false, lt-ltb, le-ltb, eqb-true, eqb-false, eq-eqb, ne_eqb}
-use Rattle.text.specs.declared.answer.Text.{Text}
-use Rattle.text.specs.declared.answer.Text.TheVariants.{WellFormed, IllFormed}
-use Rattle.text.specs.Check.{text_of}
+use Rattle.std.specs.Prelude.{Ok, Err}
+use Rattle.text.specs.Check.{Text, text_of}
 use Rattle.rows.specs.Table.{limit, Own}
 use Rattle.rows.specs.Kinds.{kind_float, kind_text, kind_binary, kind_key, constant_own, span_own, holder_own, foreign_own, damaged_own}
+use Rattle.format.specs.declared.refused.Refused.{Refused}
 use Rattle.format.specs.declared.refusal.Refusal.{Refusal}
 use Rattle.format.specs.declared.refusal.Refusal.TheVariants as why
 use Rattle.format.specs.declared.head.Count.{Count}
-use Rattle.format.specs.declared.head.Count.TheVariants.{Is, Not}
 use Rattle.format.specs.declared.head.Spelling.{Spelling}
-use Rattle.format.specs.declared.head.Spelling.TheVariants.{At, No}
 use Rattle.format.specs.declared.head.Content.{Content}
 use Rattle.format.specs.declared.head.Content.TheVariants as holds
 use Rattle.format.specs.declared.head.Head.{Head}
-use Rattle.format.specs.declared.head.Head.TheVariants.{Leaf, Hold, Refer, Declare, Foreign, Refuse}
+use Rattle.format.specs.declared.head.Head.TheVariants.{Leaf, Hold, Refer, Declare, Foreign}
 use Rattle.format.specs.declared.head.Children.{Children}
 use Rattle.format.specs.declared.head.Children.TheVariants.{Entries}
 use Rattle.format.specs.Refusal.{refusal_number}
-use Rattle.format.specs.Head.{Marker, constant, float, text, array, entries, map, binary, special, nothing, signed_body, unsigned_body, small, char, reference, marker_of, count_of, count_at, bodied, spelled, spelling, spelling_of, text_head, codepoint, char_body, char_head, float_size, with_count, declare_head, foreign_head, second_head, special_head, head_by, head_at, key_at}
+use Rattle.format.specs.Head.{counts, spells, refuse, Marker, constant, float, text, array, entries, map, binary, special, nothing, signed_body, unsigned_body, small, char, reference, marker_of, count_of, count_at, bodied, spelled, spelling, spelling_of, text_head, codepoint, char_body, char_head, float_size, with_count, declare_head, foreign_head, second_head, special_head, head_by, head_at, key_at}
 use Rattle.format.specs.Tree.{Tree, Trees, leaf, foreign, damaged}
 use Rattle.format.specs.Value.{Reading, right, wrong, Readings, ran, broke, Reader, integer_own, integer_kind, leaf_own, kind_of, child_count, children_of, keyed, is_key, in_force, in_turn, child, ahead, follow, readings, holding, referred, closed, declaring, whole, framed, in_foreign, step, value}
 use Rattle.format.proofs.Heads.{Counted, counted, Payload, floating, written, plain, ContentAt, Stood, head_stood}
@@ -55,13 +54,13 @@ take_part a (suc b) (suc n) (x ∷ l) h = take_part a b n l (omega arith)
 
 -- ---- the parts of a reading, `by` further on
 
-abbrev count_further : ℕ → Count → Count
-count_further by (Is m next) = Is m (by + next)
-count_further by (Not e) = Not e
+abbrev count_further : ℕ → Result Count Refusal → Result Count Refusal
+count_further by (Ok c) = Ok (counts c.value (by + c.next))
+count_further by (Err e) = Err e
 
-abbrev spelling_further : ℕ → Spelling → Spelling
-spelling_further by (At place m) = At (by + place) m
-spelling_further by (No e) = No e
+abbrev spelling_further : ℕ → Result Spelling Refusal → Result Spelling Refusal
+spelling_further by (Ok x) = Ok (spells (by + x.place) x.size)
+spelling_further by (Err e) = Err e
 
 abbrev content_further : ℕ → Content → Content
 content_further by (holds.Constant kind) = holds.Constant kind
@@ -70,13 +69,13 @@ content_further by (holds.Integer signed place m) = holds.Integer signed (by + p
 content_further by (holds.Span kind place m) = holds.Span kind (by + place) m
 content_further by (holds.Char c) = holds.Char c
 
-abbrev head_further : ℕ → Head → Head
-head_further by (Leaf c next) = Leaf (content_further by c) (by + next)
-head_further by (Hold h m next) = Hold h m (by + next)
-head_further by (Refer m next) = Refer m (by + next)
-head_further by (Declare m next) = Declare m (by + next)
-head_further by (Foreign place m) = Foreign (by + place) m
-head_further by (Refuse e place) = Refuse e (by + place)
+abbrev head_further : ℕ → Result Head Refused → Result Head Refused
+head_further by (Ok (Leaf c next)) = Ok (Leaf (content_further by c) (by + next))
+head_further by (Ok (Hold h m next)) = Ok (Hold h m (by + next))
+head_further by (Ok (Refer m next)) = Ok (Refer m (by + next))
+head_further by (Ok (Declare m next)) = Ok (Declare m (by + next))
+head_further by (Ok (Foreign place m)) = Ok (Foreign (by + place) m)
+head_further by (Err w) = refuse w.why (by + w.place)
 
 abbrev readings_further : ℕ → Readings → Readings
 readings_further by (ran ts next) = ran (trees_further by ts) (by + next)
@@ -102,8 +101,8 @@ module _ (s : List ℕ) (by n : ℕ) where
   count-of : (at : ℕ) (c : Coded) → count_of (by + at) c ≡ count_further by (count_of at c)
   count-of at (is m used) = go (leb m limit)
     where
-      go : (b : Bool) → cond b (Is m (by + at + used)) (Not why.Huge) ≡ count_further by (cond b (Is m (at + used)) (Not why.Huge))
-      go true = ap (Is m) (add_assoc by at used)
+      go : (b : Bool) → cond b (Ok (counts m (by + at + used))) (Err why.Huge) ≡ count_further by (cond b (Ok (counts m (at + used))) (Err why.Huge))
+      go true = ap (λ (z : ℕ). Ok (counts m z)) (add_assoc by at used)
       go false = refl
   count-of at short = refl
   count-of at other = refl
@@ -114,69 +113,69 @@ module _ (s : List ℕ) (by n : ℕ) where
       ap (λ (y : List ℕ). count_of (by + at) (coded F y)) (ap (λ (k : ℕ). take k (drop (by + at) s)) (stop_less stop at) ∙ part_same (stop - at) at (omega arith))
       ∙ count-of at (coded F (take (stop - at) (drop at x)))
 
-  counted_same : (F : Family) (at stop : ℕ) → at ≤ stop → stop ≤ n → (rest rest' : ℕ → ℕ → Head) → ((m j : ℕ) → rest m (by + j) ≡ head_further by (rest' m j))
+  counted_same : (F : Family) (at stop : ℕ) → at ≤ stop → stop ≤ n → (rest rest' : ℕ → ℕ → Result Head Refused) → ((m j : ℕ) → rest m (by + j) ≡ head_further by (rest' m j))
       → with_count (by + at) (count_at F s (by + at) (by + stop)) rest ≡ head_further by (with_count at (count_at F x at stop) rest')
-  counted_same F at stop h l rest rest' f = ap (λ (c : Count). with_count (by + at) c rest) (count_same F at stop h l) ∙ go (count_at F x at stop)
+  counted_same F at stop h l rest rest' f = ap (λ (c : Result Count Refusal). with_count (by + at) c rest) (count_same F at stop h l) ∙ go (count_at F x at stop)
     where
-      go : (c : Count) → with_count (by + at) (count_further by c) rest ≡ head_further by (with_count at c rest')
-      go (Is m next) = f m next
-      go (Not e) = refl
+      go : (c : Result Count Refusal) → with_count (by + at) (count_further by c) rest ≡ head_further by (with_count at c rest')
+      go (Ok c) = f c.value c.next
+      go (Err e) = refl
 
   -- ---- bodies
 
   bodied_same : (at stop : ℕ) (c : Content) (j m : ℕ) → bodied (by + at) (content_further by c) (by + j) m (by + stop) ≡ head_further by (bodied at c j m stop)
-  bodied_same at stop c j m = ap (λ (k : ℕ). cond (leb m k) (Leaf (content_further by c) (by + j + m)) (Refuse why.Short (by + at))) (stop_less stop j) ∙ go (leb m (stop - j))
+  bodied_same at stop c j m = ap (λ (k : ℕ). cond (leb m k) (Ok (Leaf (content_further by c) (by + j + m))) (refuse why.Short (by + at))) (stop_less stop j) ∙ go (leb m (stop - j))
     where
-      go : (b : Bool) → cond b (Leaf (content_further by c) (by + j + m)) (Refuse why.Short (by + at)) ≡ head_further by (cond b (Leaf c (j + m)) (Refuse why.Short at))
-      go true = ap (Leaf (content_further by c)) (add_assoc by j m)
+      go : (b : Bool) → cond b (Ok (Leaf (content_further by c) (by + j + m))) (refuse why.Short (by + at)) ≡ head_further by (cond b (Ok (Leaf c (j + m))) (refuse why.Short at))
+      go true = ap (λ (z : ℕ). Ok (Leaf (content_further by c) z)) (add_assoc by j m)
       go false = refl
 
   spelling_same : (stop j m : ℕ) → j ≤ stop → stop ≤ n → spelling s (by + j) m (by + stop) ≡ spelling_further by (spelling x j m stop)
   spelling_same stop j m h l =
-      ap (λ (k : ℕ). cond (leb m k) (spelled (by + j) m (text_of (take m (drop (by + j) s)))) (No why.Short)) (stop_less stop j)
+      ap (λ (k : ℕ). cond (leb m k) (spelled (by + j) m (text_of (take m (drop (by + j) s)))) (Err why.Short)) (stop_less stop j)
       ∙ bool_case (leb m (stop - j))
       (λ e. rw e (ap (λ (y : List ℕ). spelled (by + j) m (text_of y)) (part_same m j (omega (arith, leb-true m (stop - j) e))) ∙ go (text_of (take m (drop j x)))))
       (λ e. rw e refl)
     where
       go : (t : Text) → spelled (by + j) m t ≡ spelling_further by (spelled j m t)
-      go WellFormed = refl
-      go (IllFormed k) = refl
+      go (Ok u) = refl
+      go (Err i) = refl
 
   spellings_same : (F : Family) (at stop : ℕ) → at ≤ stop → stop ≤ n → spelling_of s (by + stop) (count_at F s (by + at) (by + stop)) ≡ spelling_further by (spelling_of x stop (count_at F x at stop))
   spellings_same F at stop h l = ap (spelling_of s (by + stop)) (count_same F at stop h l) ∙ go (count_at F x at stop) (counted F x at stop)
     where
-      go : (c : Count) → Counted at stop c → spelling_of s (by + stop) (count_further by c) ≡ spelling_further by (spelling_of x stop c)
-      go (Is m next) k = spelling_same stop next m k.within l
-      go (Not e) k = refl
+      go : (c : Result Count Refusal) → Counted at stop c → spelling_of s (by + stop) (count_further by c) ≡ spelling_further by (spelling_of x stop c)
+      go (Ok c) k = spelling_same stop c.next c.value k.within l
+      go (Err e) k = refl
 
-  text_same : (at : ℕ) (y : Spelling) → text_head (by + at) (spelling_further by y) ≡ head_further by (text_head at y)
-  text_same at (At place m) = ap (Leaf (holds.Span kind_text (by + place) m)) (add_assoc by place m)
-  text_same at (No e) = refl
+  text_same : (at : ℕ) (y : Result Spelling Refusal) → text_head (by + at) (spelling_further by y) ≡ head_further by (text_head at y)
+  text_same at (Ok x) = ap (λ (z : ℕ). Ok (Leaf (holds.Span kind_text (by + x.place) x.size) z)) (add_assoc by x.place x.size)
+  text_same at (Err e) = refl
 
   char_same : (at stop : ℕ) → stop ≤ n → char_head s (by + at) (by + stop) ≡ head_further by (char_head x at stop)
   char_same at stop l =
       let e : by + stop - (by + at + 1) ≡ stop - (at + 1) = omega arith in
-      ap (λ (k : ℕ). cond (leb 3 k) (char_body (by + at) (number (take 3 (drop (by + at + 1) s)))) (Refuse why.Short (by + at))) e
+      ap (λ (k : ℕ). cond (leb 3 k) (char_body (by + at) (number (take 3 (drop (by + at + 1) s)))) (refuse why.Short (by + at))) e
       ∙ bool_case (leb 3 (stop - (at + 1)))
       (λ b. rw b (ap (λ (y : List ℕ). char_body (by + at) (number y)) (ap (λ (k : ℕ). take 3 (drop k s)) (add_assoc by at 1) ∙ part_same 3 (at + 1) (omega (arith, leb-true 3 (stop - (at + 1)) b)))
       ∙ go (codepoint (number (take 3 (drop (at + 1) x)))) (number (take 3 (drop (at + 1) x)))))
       (λ b. rw b refl)
     where
-      go : (b : Bool) (c : ℕ) → cond b (Leaf (holds.Char c) (by + at + 4)) (Refuse why.Char (by + at)) ≡ head_further by (cond b (Leaf (holds.Char c) (at + 4)) (Refuse why.Char at))
-      go true c = ap (Leaf (holds.Char c)) (add_assoc by at 4)
+      go : (b : Bool) (c : ℕ) → cond b (Ok (Leaf (holds.Char c) (by + at + 4))) (refuse why.Char (by + at)) ≡ head_further by (cond b (Ok (Leaf (holds.Char c) (at + 4))) (refuse why.Char at))
+      go true c = ap (λ (z : ℕ). Ok (Leaf (holds.Char c) z)) (add_assoc by at 4)
       go false c = refl
 
-  foreign-body : (at stop m j : ℕ) → cond (leb m (by + stop - (by + j))) (Foreign (by + j) m) (Refuse why.Short (by + at)) ≡ head_further by (cond (leb m (stop - j)) (Foreign j m) (Refuse why.Short at))
-  foreign-body at stop m j = ap (λ (k : ℕ). cond (leb m k) (Foreign (by + j) m) (Refuse why.Short (by + at))) (stop_less stop j) ∙ go (leb m (stop - j))
+  foreign-body : (at stop m j : ℕ) → cond (leb m (by + stop - (by + j))) (Ok (Foreign (by + j) m)) (refuse why.Short (by + at)) ≡ head_further by (cond (leb m (stop - j)) (Ok (Foreign j m)) (refuse why.Short at))
+  foreign-body at stop m j = ap (λ (k : ℕ). cond (leb m k) (Ok (Foreign (by + j) m)) (refuse why.Short (by + at))) (stop_less stop j) ∙ go (leb m (stop - j))
     where
-      go : (b : Bool) → cond b (Foreign (by + j) m) (Refuse why.Short (by + at)) ≡ head_further by (cond b (Foreign j m) (Refuse why.Short at))
+      go : (b : Bool) → cond b (Ok (Foreign (by + j) m)) (refuse why.Short (by + at)) ≡ head_further by (cond b (Ok (Foreign j m)) (refuse why.Short at))
       go true = refl
       go false = refl
 
-  declare-body : (at m j : ℕ) → cond (eqb m 0) (Refuse why.Empty (by + at)) (Declare m (by + j)) ≡ head_further by (cond (eqb m 0) (Refuse why.Empty at) (Declare m j))
+  declare-body : (at m j : ℕ) → cond (eqb m 0) (refuse why.Empty (by + at)) (Ok (Declare m (by + j))) ≡ head_further by (cond (eqb m 0) (refuse why.Empty at) (Ok (Declare m j)))
   declare-body at m j = go (eqb m 0)
     where
-      go : (b : Bool) → cond b (Refuse why.Empty (by + at)) (Declare m (by + j)) ≡ head_further by (cond b (Refuse why.Empty at) (Declare m j))
+      go : (b : Bool) → cond b (refuse why.Empty (by + at)) (Ok (Declare m (by + j))) ≡ head_further by (cond b (refuse why.Empty at) (Ok (Declare m j)))
       go true = refl
       go false = refl
 
@@ -191,8 +190,8 @@ module _ (s : List ℕ) (by n : ℕ) where
     second_same b = go (eqb b 0x0d) (eqb b 0x00)
       where
         go : (p q : Bool)
-            → cond p (declare_head (by + at) (count_at declaration_count s (by + at) (by + stop))) (cond q (foreign_head (by + at) (by + stop) (count_at foreign_length s (by + at) (by + stop))) (Refuse why.Marker (by + at)))
-            ≡ head_further by (cond p (declare_head at (count_at declaration_count x at stop)) (cond q (foreign_head at stop (count_at foreign_length x at stop)) (Refuse why.Marker at)))
+            → cond p (declare_head (by + at) (count_at declaration_count s (by + at) (by + stop))) (cond q (foreign_head (by + at) (by + stop) (count_at foreign_length s (by + at) (by + stop))) (refuse why.Marker (by + at)))
+            ≡ head_further by (cond p (declare_head at (count_at declaration_count x at stop)) (cond q (foreign_head at stop (count_at foreign_length x at stop)) (refuse why.Marker at)))
         go true q = counted_same declaration_count at stop (omega arith) l _ _ (λ m j. declare-body at m j)
         go false true = counted_same foreign_length at stop (omega arith) l _ _ (λ m j. foreign-body at stop m j)
         go false false = refl
@@ -206,8 +205,8 @@ module _ (s : List ℕ) (by n : ℕ) where
 
     stands_same : (b : ℕ) (m : Marker) → head_by s (by + at) (by + stop) b m ≡ head_further by (head_by x at stop b m)
     unfolding head_by
-    stands_same b constant = ap (Leaf (holds.Constant (b + 1))) (add_assoc by at 1)
-    stands_same b small = ap (Leaf (holds.Small b)) (add_assoc by at 1)
+    stands_same b constant = ap (λ (z : ℕ). Ok (Leaf (holds.Constant (b + 1)) z)) (add_assoc by at 1)
+    stands_same b small = ap (λ (z : ℕ). Ok (Leaf (holds.Small b) z)) (add_assoc by at 1)
     stands_same b signed_body = body_at (size_at (b - 0x10)) (λ p. holds.Integer true p (size_at (b - 0x10))) refl
     stands_same b unsigned_body = body_at (size_at (b - 0x18)) (λ p. holds.Integer false p (size_at (b - 0x18))) refl
     stands_same b float = body_at (float_size b) (λ p. holds.Span kind_float p (float_size b)) refl
@@ -235,10 +234,10 @@ module _ (s : List ℕ) (by n : ℕ) where
   unfolding key_at
   key_same at stop h l = spellings_same key_length at stop h l
 
-  keyed_same : (at : ℕ) (y : Spelling) → keyed (by + at) (spelling_further by y) ≡ reading_further by (keyed at y)
+  keyed_same : (at : ℕ) (y : Result Spelling Refusal) → keyed (by + at) (spelling_further by y) ≡ reading_further by (keyed at y)
   unfolding named tree_further
-  keyed_same at (At place m) = ap (right (leaf (span_own kind_key (by + place) m))) (add_assoc by place m)
-  keyed_same at (No e) = refl
+  keyed_same at (Ok x) = ap (right (leaf (span_own kind_key (by + x.place) x.size))) (add_assoc by x.place x.size)
+  keyed_same at (Err e) = refl
 
   -- ---- what a leaf says
 
@@ -340,22 +339,22 @@ module _ (s : List ℕ) (by n d : ℕ) (same : (k at stop : ℕ) → stop ≤ n 
       ap (λ (z : Reading). follow z (λ next. readings (value d s) c s k (i + 1) m next (by + stop))) (child_same c k i at stop h l)
       ∙ follow_further by at stop (child c (value d y) y k i at stop) (values_child d c y k i at stop) _ _ (λ j g. run_same c k (i + 1) m j stop g l)
 
-  step_same : (k at stop : ℕ) → stop ≤ n → (h : Head) → Stood y at stop h → step (value d s) s k (by + at) (by + stop) (head_further by h) ≡ reading_further by (step (value d y) y k at stop h)
+  step_same : (k at stop : ℕ) → stop ≤ n → (h : Result Head Refused) → Stood y at stop h → step (value d s) s k (by + at) (by + stop) (head_further by h) ≡ reading_further by (step (value d y) y k at stop h)
   unfolding step tree_further
-  step_same k at stop l (Leaf c next) w = ap (λ (z : Own). right (leaf z) (by + next)) (leaf_same s by n at next (omega (arith, w.within)) c w.content)
-  step_same k at stop l (Hold h m next) w =
+  step_same k at stop l (Ok (Leaf c next)) w = ap (λ (z : Own). right (leaf z) (by + next)) (leaf_same s by n at next (omega (arith, w.within)) c w.content)
+  step_same k at stop l (Ok (Hold h m next)) w =
       ap (holding (holder_own (kind_of h) m)) (run_same (children_of h) k 0 (child_count h m) next stop w.within l)
       ∙ held_further by (holder_own (kind_of h) m) (readings (value d y) (children_of h) y k 0 (child_count h m) next stop)
-  step_same k at stop l (Refer m next) w = refer_further by (ltb m k) m at next
-  step_same k at stop l (Declare m next) w =
+  step_same k at stop l (Ok (Refer m next)) w = refer_further by (ltb m k) m at next
+  step_same k at stop l (Ok (Declare m next)) w =
       ap (λ (q : Readings). declaring m q (value d s) (by + stop)) (run_same Entries 0 0 m next stop w.within l)
       ∙ declaring_further by stop m (readings (value d y) Entries y 0 0 m next stop) (value d s) (value d y) (λ j. same m j stop l)
-  step_same k at stop l (Foreign place m) w =
+  step_same k at stop l (Ok (Foreign place m)) w =
       ap (framed (by + place) m) (ap (λ (i : ℕ). whole i (value d s (in_foreign k) (by + place) i)) (add_assoc by place m)
       ∙ ap (whole (by + (place + m))) (same (in_foreign k) place (place + m) (omega (arith, w.within)))
       ∙ whole_further by (place + m) (value d y (in_foreign k) place (place + m)))
       ∙ framed_further by place m (whole (place + m) (value d y (in_foreign k) place (place + m)))
-  step_same k at stop l (Refuse e place) w = refl
+  step_same k at stop l (Err x) w = refl
 
 -- the same bytes read alike, with k entries in force
 pub value_further : (d : ℕ) (s : List ℕ) (by n k at stop : ℕ) → stop ≤ n → value d s k (by + at) (by + stop) ≡ reading_further by (value d (take n (drop by s)) k at stop)

@@ -1,4 +1,5 @@
 -- What stands at a place where a form was written: a length, count or number of each family, and the head that it begins. Assumes nothing.
+use Rattle.std.specs.Prelude.{Result, Ok}
 use mathlib.Core.Path.{◌≡◌, refl, sym, ap, ◌∙◌, subst}
 use Prim.Native.Nat.{ℕ, zero, suc, ◌+◌, ◌-◌, ◌≤◌, ◌<◌}
 use native.Mathlib.Omega.{arith}
@@ -16,11 +17,12 @@ use Rattle.wide.proofs.Families.{Sound, round_trip, marked-form}
 use Rattle.wide.proofs.Sound.{sound_variable, sound_headers}
 use Rattle.wide.proofs.Ranks.{bool_case}
 use Rattle.rows.specs.Table.{limit}
+use Rattle.format.specs.declared.refused.Refused.{Refused}
+use Rattle.format.specs.declared.refusal.Refusal.{Refusal}
 use Rattle.format.specs.declared.head.Count.{Count}
-use Rattle.format.specs.declared.head.Count.TheVariants.{Is}
 use Rattle.format.specs.declared.head.Holder.TheVariants.{Array, Record, Map}
 use Rattle.format.specs.declared.head.Head.{Head}
-use Rattle.format.specs.Head.{Marker, text, array, entries, map, binary, special, reference, marker_of, between, count_of, count_at, spelling, spelling_of, text_head, binary_head, holder_head, refer_head, declare_head, foreign_head, second_head, head_by, head_at, key_at}
+use Rattle.format.specs.Head.{counts, Marker, text, array, entries, map, binary, special, reference, marker_of, between, count_of, count_at, spelling, spelling_of, text_head, binary_head, holder_head, refer_head, declare_head, foreign_head, second_head, head_by, head_at, key_at}
 use Rattle.format.proofs.Markers.{is-text, is-array, is-entries, is-map, is-reference}
 
 pub take-front : (xs ys : List ℕ) (m : ℕ) → length xs ≤ m → take m (xs ++ ys) ≡ xs ++ take (m - length xs) ys
@@ -76,7 +78,7 @@ module _ (s : List ℕ) (at stop : ℕ) where
   stand_byte b bs h = ap (λ (i : ℕ). get_or s i 0) (sym (add-zero at)) ∙ sym (get_or-drop at s 0 0) ∙ ap (λ (l : List ℕ). get_or l 0 0) h.bytes
 
   -- a number of a family
-  pub count-form : (F : Family) → Sound F → (n : ℕ) → n ≤ limit → Stand s at stop (form F n) → count_at F s at stop ≡ Is n (at + length (form F n))
+  pub count-form : (F : Family) → Sound F → (n : ℕ) → n ≤ limit → Stand s at stop (form F n) → count_at F s at stop ≡ Ok (counts n (at + length (form F n)))
   unfolding count_at
   count-form F good n few h =
       let L : List ℕ = take (stop - at - length (form F n)) h.rest in
@@ -90,11 +92,11 @@ module _ (s : List ℕ) (at stop : ℕ) where
       rw (lt-ltb at stop (omega (arith, h.room)), stand_byte b bs h, e)
 
   -- the head of a family whose forms begin with a marker of their own
-  family_head : (F : Family) → Sound F → (n : ℕ) → n ≤ limit → (m : Marker) → marker_of (get_or (form F n) 0 0) ≡ m → (H : Count → Head)
-      → ((b : ℕ) → head_by s at stop b m ≡ H (count_at F s at stop)) → Stand s at stop (form F n) → head_at s at stop ≡ H (Is n (at + length (form F n)))
+  family_head : (F : Family) → Sound F → (n : ℕ) → n ≤ limit → (m : Marker) → marker_of (get_or (form F n) 0 0) ≡ m → (H : Result Count Refusal → Result Head Refused)
+      → ((b : ℕ) → head_by s at stop b m ≡ H (count_at F s at stop)) → Stand s at stop (form F n) → head_at s at stop ≡ H (Ok (counts n (at + length (form F n))))
   family_head F good n few m e H same h = of (form F n) refl
     where
-      of : (bs : List ℕ) → form F n ≡ bs → head_at s at stop ≡ H (Is n (at + length (form F n)))
+      of : (bs : List ℕ) → form F n ≡ bs → head_at s at stop ≡ H (Ok (counts n (at + length (form F n))))
       of [] q = absurd (some-form F good n few q)
       of (b ∷ bs) q =
           head-by b bs m (subst (Stand s at stop) q h) (ap (λ (l : List ℕ). marker_of (get_or l 0 0)) (sym q) ∙ e) ∙ same b ∙ ap H (count-form F good n few h)
@@ -126,23 +128,23 @@ module _ (s : List ℕ) (at stop n : ℕ) (few : n ≤ limit) where
   unfolding head_by marker_of
   text-front = family_head s at stop text_length sound_headers.text n few text (first-headed (run 0x80 32 1) 0x08 [] text n (lit≤ tt) (λ x a b. is-text x a b) refl) (λ c. text_head at (spelling_of s stop c)) (λ b. refl)
 
-  pub binary-front : Stand s at stop (form binary_length n) → head_at s at stop ≡ binary_head at stop (Is n (at + length (form binary_length n)))
+  pub binary-front : Stand s at stop (form binary_length n) → head_at s at stop ≡ binary_head at stop (Ok (counts n (at + length (form binary_length n))))
   unfolding head_by marker_of
   binary-front = family_head s at stop binary_length sound_headers.binary n few binary (first-headed (run 0 0 0) 0x0c [] binary n (lit≤ tt) (λ x a b. absurd (omega arith)) refl) (binary_head at stop) (λ b. refl)
 
-  pub array-front : Stand s at stop (form array_count n) → head_at s at stop ≡ holder_head Array at (Is n (at + length (form array_count n)))
+  pub array-front : Stand s at stop (form array_count n) → head_at s at stop ≡ holder_head Array at (Ok (counts n (at + length (form array_count n))))
   unfolding head_by marker_of
   array-front = family_head s at stop array_count sound_headers.array n few array (first-headed (run 0xa0 16 1) 0x09 [] array n (lit≤ tt) (λ x a b. is-array x a b) refl) (holder_head Array at) (λ b. refl)
 
-  pub record_front : Stand s at stop (form record_count n) → head_at s at stop ≡ holder_head Record at (Is n (at + length (form record_count n)))
+  pub record_front : Stand s at stop (form record_count n) → head_at s at stop ≡ holder_head Record at (Ok (counts n (at + length (form record_count n))))
   unfolding head_by marker_of
   record_front = family_head s at stop record_count sound_headers.entries n few entries (first-headed (run 0xb0 8 1) 0x0a [] entries n (lit≤ tt) (λ x a b. is-entries x a b) refl) (holder_head Record at) (λ b. refl)
 
-  pub map-front : Stand s at stop (form map_count n) → head_at s at stop ≡ holder_head Map at (Is n (at + length (form map_count n)))
+  pub map-front : Stand s at stop (form map_count n) → head_at s at stop ≡ holder_head Map at (Ok (counts n (at + length (form map_count n))))
   unfolding head_by marker_of
   map-front = family_head s at stop map_count sound_headers.map n few map (first-headed (run 0xb8 8 1) 0x0b [] map n (lit≤ tt) (λ x a b. is-map x a b) refl) (holder_head Map at) (λ b. refl)
 
-  pub reference-front : Stand s at stop (form reference_number n) → head_at s at stop ≡ refer_head at (Is n (at + length (form reference_number n)))
+  pub reference-front : Stand s at stop (form reference_number n) → head_at s at stop ≡ refer_head at (Ok (counts n (at + length (form reference_number n))))
   unfolding head_by marker_of
   reference-front = family_head s at stop reference_number sound_headers.reference n few reference (first-headed (run 0xc1 62 0) 0xff [] reference n (lit≤ tt) (λ x a b. is-reference x a (omega arith)) refl) (refer_head at) (λ b. refl)
 
@@ -151,8 +153,8 @@ module _ (s : List ℕ) (at stop n : ℕ) (few : n ≤ limit) where
   key_front h = ap (spelling_of s stop) (count-form s at stop key_length (sound_variable false) n few h)
 
   -- `0d` and a second byte
-  special-front : (F : Family) → Sound F → (c : ℕ) (bs : List ℕ) → form F n ≡ 0x0d ∷ c ∷ bs → (H : Count → Head) → second_head s at stop c ≡ H (count_at F s at stop)
-      → Stand s at stop (form F n) → head_at s at stop ≡ H (Is n (at + length (form F n)))
+  special-front : (F : Family) → Sound F → (c : ℕ) (bs : List ℕ) → form F n ≡ 0x0d ∷ c ∷ bs → (H : Result Count Refusal → Result Head Refused) → second_head s at stop c ≡ H (count_at F s at stop)
+      → Stand s at stop (form F n) → head_at s at stop ≡ H (Ok (counts n (at + length (form F n))))
   unfolding head_by marker_of
   special-front F good c bs q H e h =
       let k : Stand s at stop (0x0d ∷ c ∷ bs) = subst (Stand s at stop) q h in
@@ -160,8 +162,8 @@ module _ (s : List ℕ) (at stop n : ℕ) (few : n ≤ limit) where
       head-by s at stop 0x0d (c ∷ bs) special k refl
       ∙ rw (lt-ltb (at + 1) stop (omega (arith, k'.room)), stand_byte s (at + 1) stop c bs k') (e ∙ ap H (count-form s at stop F good n few h))
 
-  pub declaration_front : Stand s at stop (form declaration_count n) → head_at s at stop ≡ declare_head at (Is n (at + length (form declaration_count n)))
+  pub declaration_front : Stand s at stop (form declaration_count n) → head_at s at stop ≡ declare_head at (Ok (counts n (at + length (form declaration_count n))))
   declaration_front = special-front declaration_count sound_headers.declaration 0x0d (unmarked_form declaration_count n) (no_alone declaration_count sound_headers.declaration n refl) (declare_head at) refl
 
-  pub foreign-front : Stand s at stop (form foreign_length n) → head_at s at stop ≡ foreign_head at stop (Is n (at + length (form foreign_length n)))
+  pub foreign-front : Stand s at stop (form foreign_length n) → head_at s at stop ≡ foreign_head at stop (Ok (counts n (at + length (form foreign_length n))))
   foreign-front = special-front foreign_length sound_headers.foreign 0x00 (unmarked_form foreign_length n) (no_alone foreign_length sound_headers.foreign n refl) (foreign_head at stop) refl

@@ -1,4 +1,5 @@
 -- Nothing that reads as a tree is shorter than its bytes. By induction on the levels left. Assumes nothing.
+use Rattle.std.specs.Prelude.{Result, Ok, Err}
 use mathlib.Core.Path.{◌≡◌, refl, sym, ap, ◌∙◌, subst}
 use Prim.Native.Nat.{ℕ, zero, suc, ◌+◌, ◌-◌, ◌^◌, ◌≤◌, ◌<◌}
 use native.Mathlib.Omega.{arith}
@@ -21,18 +22,16 @@ use Rattle.wide.proofs.Nearness.{behind_up, behind_zero}
 use Rattle.wide.proofs.Wides.{value_wide}
 use Rattle.wide.proofs.Sound.{sound_variable, sound_integers, sound_headers}
 use Rattle.rows.specs.Table.{Own, limit}
+use Rattle.format.specs.declared.refused.Refused.{Refused}
 use Rattle.format.specs.declared.head.Count.{Count}
-use Rattle.format.specs.declared.head.Count.TheVariants.{Is, Not}
 use Rattle.format.specs.declared.refusal.Refusal.TheVariants as why
-use Rattle.format.specs.Head.{between, count_of, count_at}
+use Rattle.format.specs.Head.{counts, refuse, between, count_of, count_at, Marker, constant, float, text, array, entries, map, binary, special, nothing, signed_body, unsigned_body, small, char, reference, marker_of, bodied, spelled, spelling_of, codepoint, char_body, float_size, with_count, text_head, declare_head, foreign_head, second_head, head_by, head_at, key_at}
 use native.Mathlib.Nat.{min-le_left}
-use Rattle.text.specs.declared.answer.Text.{Text}
-use Rattle.text.specs.declared.answer.Text.TheVariants.{WellFormed, IllFormed}
-use Rattle.text.specs.Check.{text_of}
+use Rattle.std.specs.Prelude.{Ok, Err}
+use Rattle.text.specs.Check.{Text, text_of}
 use Rattle.rows.specs.Kinds.{kind_small, kind_signed, kind_unsigned, kind_float, kind_text, kind_binary, kind_key, constant_own, span_own, holder_own, char_own, declaration_own, foreign_own, damaged_own}
 use Rattle.format.specs.declared.refusal.Refusal.{Refusal}
 use Rattle.format.specs.declared.head.Spelling.{Spelling}
-use Rattle.format.specs.declared.head.Spelling.TheVariants.{At, No}
 use Rattle.format.specs.declared.head.Content.{Content}
 use Rattle.format.specs.declared.head.Content.TheVariants as holds
 use Rattle.format.specs.declared.head.Holder.{Holder}
@@ -40,7 +39,6 @@ use Rattle.format.specs.declared.head.Head.{Head}
 use Rattle.format.specs.declared.head.Head.TheVariants as stand
 use Rattle.format.specs.declared.head.Children.{Children}
 use Rattle.format.specs.declared.head.Children.TheVariants.{Entries}
-use Rattle.format.specs.Head.{Marker, constant, float, text, array, entries, map, binary, special, nothing, signed_body, unsigned_body, small, char, reference, marker_of, bodied, spelled, spelling_of, codepoint, char_body, float_size, with_count, text_head, declare_head, foreign_head, second_head, head_by, head_at, key_at}
 use Rattle.format.specs.Tree.{Tree, leaf, foreign, damaged, Trees}
 use Rattle.format.specs.Value.{Reading, right, wrong, Readings, ran, broke, integer_own, leaf_own, kind_of, child_count, children_of, keyed, is_key, in_force, in_turn, child, ahead, follow, readings, holding, referred, closed, declaring, ended, whole, framed, in_foreign, step, value, document}
 use Rattle.rules.specs.declared.kind.Kind.{Kind}
@@ -58,13 +56,14 @@ use Rattle.format.specs.Refusal.{refusal_number}
 
 -- ---- a length, count or number
 
-count-of : (F : Family) → Sound F → (s : List ℕ) → Bytes s → (at n next : ℕ) (c : Coded) → coded F s ≡ c → count_of at c ≡ Is n next → at + length (form F n) ≤ next
+count-of : (F : Family) → Sound F → (s : List ℕ) → Bytes s → (at n next : ℕ) (c : Coded) → coded F s ≡ c → count_of at c ≡ Ok (counts n next) → at + length (form F n) ≤ next
 count-of F good s b at n next (is m used) e q = go (leb m limit) q
   where
-    go : (t : Bool) → cond t (Is m (at + used)) (Not why.Huge) ≡ Is n next → at + length (form F n) ≤ next
+    go : (t : Bool) → cond t (Ok (counts m (at + used))) (Err why.Huge) ≡ Ok (counts n next) → at + length (form F n) ≤ next
     go true r =
-        let i : m ≡ n = cc in
-        let j : at + used ≡ next = cc in
+        let z : counts m (at + used) ≡ counts n next = cc in
+        let i : m ≡ n = ap (λ (x : Count). x.value) z in
+        let j : at + used ≡ next = ap (λ (x : Count). x.next) z in
         let k : Reads F s m used = reads F good s m used b e in
         omega (arith, k.least, ap (λ (x : ℕ). length (form F x)) i)
     go false r = absurd (let z : ◌≡◌ {A = ℕ} 0 1 = cc in omega arith)
@@ -72,7 +71,7 @@ count-of F good s b at n next short e q = absurd (let z : ◌≡◌ {A = ℕ} 0 
 count-of F good s b at n next other e q = absurd (let z : ◌≡◌ {A = ℕ} 0 1 = cc in omega arith)
 
 -- what says n has at least the bytes of its form
-pub count_least : (F : Family) → Sound F → (s : List ℕ) → Bytes s → (at stop n next : ℕ) → count_at F s at stop ≡ Is n next → at + length (form F n) ≤ next
+pub count_least : (F : Family) → Sound F → (s : List ℕ) → Bytes s → (at stop n next : ℕ) → count_at F s at stop ≡ Ok (counts n next) → at + length (form F n) ≤ next
 unfolding count_at
 count_least F good s b at stop n next e =
     count-of F good (between s at stop) (bytes_take (stop - at) (drop at s) (bytes_drop at s b)) at n next (coded F (between s at stop)) refl e
@@ -118,54 +117,54 @@ LeastContent at (holds.Integer sign place n) = Unit {0}
 LeastContent at (holds.Span kind place n) = (kind ≡ kind_text → at + length (form text_length n) ≤ place) × (kind ≡ kind_binary → at + length (form binary_length n) ≤ place)
 LeastContent at (holds.Char c) = Unit {0}
 
-abbrev LeastHead : ℕ → Head → Type 0
-LeastHead at (stand.Leaf c next) = LeastContent at c
-LeastHead at (stand.Hold h n next) = at + length (form (holder_count h) n) ≤ next
-LeastHead at (stand.Refer n next) = at + length (form reference_number n) ≤ next
-LeastHead at (stand.Declare n next) = at + length (form declaration_count n) ≤ next
-LeastHead at (stand.Foreign place n) = at + length (form foreign_length n) ≤ place
-LeastHead at (stand.Refuse e place) = Unit {0}
+abbrev LeastHead : ℕ → Result Head Refused → Type 0
+LeastHead at (Ok (stand.Leaf c next)) = LeastContent at c
+LeastHead at (Ok (stand.Hold h n next)) = at + length (form (holder_count h) n) ≤ next
+LeastHead at (Ok (stand.Refer n next)) = at + length (form reference_number n) ≤ next
+LeastHead at (Ok (stand.Declare n next)) = at + length (form declaration_count n) ≤ next
+LeastHead at (Ok (stand.Foreign place n)) = at + length (form foreign_length n) ≤ place
+LeastHead at (Err w) = Unit {0}
 
 bodied_least : (at : ℕ) (c : Content) (place n stop : ℕ) → LeastContent at c → LeastHead at (bodied at c place n stop)
-bodied_least at c place n stop h = cond-case (LeastHead at) (leb n (stop - place)) (stand.Leaf c (place + n)) (stand.Refuse why.Short at) (λ _. h) (λ _. tt)
+bodied_least at c place n stop h = cond-case (LeastHead at) (leb n (stop - place)) (Ok (stand.Leaf c (place + n))) (refuse why.Short at) (λ _. h) (λ _. tt)
 
 -- the bytes of a text or of a key stand behind the form of its length
-abbrev LeastSpelling : Family → ℕ → Spelling → Type 0
-LeastSpelling F at (At place n) = at + length (form F n) ≤ place
-LeastSpelling F at (No e) = Unit {0}
+abbrev LeastSpelling : Family → ℕ → Result Spelling Refusal → Type 0
+LeastSpelling F at (Ok x) = at + length (form F x.size) ≤ x.place
+LeastSpelling F at (Err e) = Unit {0}
 
 module _ (s : List ℕ) (b : Bytes s) (at stop : ℕ) where
   -- behind a number of a family
-  with_least : (F : Family) → Sound F → (rest : ℕ → ℕ → Head) → ((n next : ℕ) → at + length (form F n) ≤ next → LeastHead at (rest n next)) → LeastHead at (with_count at (count_at F s at stop) rest)
+  with_least : (F : Family) → Sound F → (rest : ℕ → ℕ → Result Head Refused) → ((n next : ℕ) → at + length (form F n) ≤ next → LeastHead at (rest n next)) → LeastHead at (with_count at (count_at F s at stop) rest)
   with_least F good rest f = of (count_at F s at stop) refl
     where
-      of : (c : Count) → count_at F s at stop ≡ c → LeastHead at (with_count at c rest)
-      of (Is n next) e = f n next (count_least F good s b at stop n next e)
-      of (Not e) q = tt
+      of : (c : Result Count Refusal) → count_at F s at stop ≡ c → LeastHead at (with_count at c rest)
+      of (Ok c) e = f c.value c.next (count_least F good s b at stop c.value c.next e)
+      of (Err e) q = tt
 
   spelling_least : (F : Family) → Sound F → LeastSpelling F at (spelling_of s stop (count_at F s at stop))
   spelling_least F good = of (count_at F s at stop) refl
     where
       told : (t : Text) (n place : ℕ) → at + length (form F n) ≤ place → LeastSpelling F at (spelled place n t)
-      told WellFormed n place h = h
-      told (IllFormed k) n place h = tt
+      told (Ok u) n place h = h
+      told (Err i) n place h = tt
 
-      of : (c : Count) → count_at F s at stop ≡ c → LeastSpelling F at (spelling_of s stop c)
-      of (Is n place) e =
-          cond-case (LeastSpelling F at) (leb n (stop - place)) (spelled place n (text_of (take n (drop place s)))) (No why.Short)
-          (λ _. told (text_of (take n (drop place s))) n place (count_least F good s b at stop n place e)) (λ _. tt)
-      of (Not y) e = tt
+      of : (c : Result Count Refusal) → count_at F s at stop ≡ c → LeastSpelling F at (spelling_of s stop c)
+      of (Ok c) e =
+          cond-case (LeastSpelling F at) (leb c.value (stop - c.next)) (spelled c.next c.value (text_of (take c.value (drop c.next s)))) (Err why.Short)
+          (λ _. told (text_of (take c.value (drop c.next s))) c.value c.next (count_least F good s b at stop c.value c.next e)) (λ _. tt)
+      of (Err y) e = tt
 
-  text_least : (x : Spelling) → LeastSpelling text_length at x → LeastHead at (text_head at x)
-  text_least (At place n) h = ((λ _. h), (λ e. absurd (omega (arith, e))))
-  text_least (No e) h = tt
+  text_least : (x : Result Spelling Refusal) → LeastSpelling text_length at x → LeastHead at (text_head at x)
+  text_least (Ok x) h = ((λ _. h), (λ e. absurd (omega (arith, e))))
+  text_least (Err e) h = tt
 
   second_least : (c : ℕ) → LeastHead at (second_head s at stop c)
   second_least c =
       cond-case (LeastHead at) (eqb c 0x0d) (declare_head at (count_at declaration_count s at stop)) _
-      (λ _. with_least declaration_count sound_headers.declaration _ (λ n next h. cond-case (LeastHead at) (eqb n 0) (stand.Refuse why.Empty at) (stand.Declare n next) (λ _. tt) (λ _. h)))
-      (λ _. cond-case (LeastHead at) (eqb c 0x00) (foreign_head at stop (count_at foreign_length s at stop)) (stand.Refuse why.Marker at)
-      (λ _. with_least foreign_length sound_headers.foreign _ (λ n place h. cond-case (LeastHead at) (leb n (stop - place)) (stand.Foreign place n) (stand.Refuse why.Short at) (λ _. h) (λ _. tt)))
+      (λ _. with_least declaration_count sound_headers.declaration _ (λ n next h. cond-case (LeastHead at) (eqb n 0) (refuse why.Empty at) (Ok (stand.Declare n next)) (λ _. tt) (λ _. h)))
+      (λ _. cond-case (LeastHead at) (eqb c 0x00) (foreign_head at stop (count_at foreign_length s at stop)) (refuse why.Marker at)
+      (λ _. with_least foreign_length sound_headers.foreign _ (λ n place h. cond-case (LeastHead at) (leb n (stop - place)) (Ok (stand.Foreign place n)) (refuse why.Short at) (λ _. h) (λ _. tt)))
       (λ _. tt))
 
   stands_least : (c : ℕ) (m : Marker) → LeastHead at (head_by s at stop c m)
@@ -178,19 +177,19 @@ module _ (s : List ℕ) (b : Bytes s) (at stop : ℕ) where
   stands_least c text = text_least (spelling_of s stop (count_at text_length s at stop)) (spelling_least text_length sound_headers.text)
   stands_least c binary = with_least binary_length sound_headers.binary _ (λ n place h. bodied_least at (holds.Span kind_binary place n) place n stop ((λ e. absurd (omega (arith, e))), (λ _. h)))
   stands_least c char =
-      cond-case (LeastHead at) (leb 3 (stop - (at + 1))) (char_body at (number (take 3 (drop (at + 1) s)))) (stand.Refuse why.Short at)
-      (λ _. cond-case (LeastHead at) (codepoint (number (take 3 (drop (at + 1) s)))) (stand.Leaf (holds.Char (number (take 3 (drop (at + 1) s)))) (at + 4)) (stand.Refuse why.Char at) (λ _. tt) (λ _. tt)) (λ _. tt)
+      cond-case (LeastHead at) (leb 3 (stop - (at + 1))) (char_body at (number (take 3 (drop (at + 1) s)))) (refuse why.Short at)
+      (λ _. cond-case (LeastHead at) (codepoint (number (take 3 (drop (at + 1) s)))) (Ok (stand.Leaf (holds.Char (number (take 3 (drop (at + 1) s)))) (at + 4))) (refuse why.Char at) (λ _. tt) (λ _. tt)) (λ _. tt)
   stands_least c array = with_least array_count sound_headers.array _ (λ n next h. h)
   stands_least c entries = with_least record_count sound_headers.entries _ (λ n next h. h)
   stands_least c map = with_least map_count sound_headers.map _ (λ n next h. h)
   stands_least c reference = with_least reference_number sound_headers.reference _ (λ n next h. h)
   stands_least c special =
-      cond-case (LeastHead at) (ltb (at + 1) stop) (second_head s at stop (get_or s (at + 1) 0)) (stand.Refuse why.Short at) (λ _. second_least (get_or s (at + 1) 0)) (λ _. tt)
+      cond-case (LeastHead at) (ltb (at + 1) stop) (second_head s at stop (get_or s (at + 1) 0)) (refuse why.Short at) (λ _. second_least (get_or s (at + 1) 0)) (λ _. tt)
   stands_least c nothing = tt
 
   head_least : LeastHead at (head_at s at stop)
   unfolding head_at
-  head_least = cond-case (LeastHead at) (ltb at stop) (head_by s at stop (get_or s at 0) (marker_of (get_or s at 0))) (stand.Refuse why.Short at) (λ _. stands_least (get_or s at 0) (marker_of (get_or s at 0))) (λ _. tt)
+  head_least = cond-case (LeastHead at) (ltb at stop) (head_by s at stop (get_or s at 0) (marker_of (get_or s at 0))) (refuse why.Short at) (λ _. stands_least (get_or s at 0) (marker_of (get_or s at 0))) (λ _. tt)
 
 -- ---- a leaf
 
@@ -297,9 +296,9 @@ key_least : (s : List ℕ) → Bytes s → (at stop : ℕ) → LeastRead s at (k
 unfolding key_at
 key_least s b at stop = of (spelling_of s stop (count_at key_length s at stop)) (spelling_least s b at stop key_length (sound_variable false))
   where
-    of : (x : Spelling) → LeastSpelling key_length at x → LeastRead s at (keyed at x)
-    of (At place n) h = key_span s at place n h
-    of (No e) h = tt
+    of : (x : Result Spelling Refusal) → LeastSpelling key_length at x → LeastRead s at (keyed at x)
+    of (Ok x) h = key_span s at x.place x.size h
+    of (Err e) h = tt
 
 -- a damaged body
 damaged_least : (s : List ℕ) (at place n : ℕ) (e : Refusal) → at + length (form foreign_length n) ≤ place → at + length (encode s (damaged (damaged_own place n (refusal_number e)))) ≤ place + n
@@ -363,19 +362,19 @@ module _ (s : List ℕ) (b : Bytes s) (few : length s ≤ limit) (d : ℕ) (good
       go false = damaged_least s at place n why.Extra l
   framed_least at place n l u (wrong e p) g r = damaged_least s at place n e l
 
-  step_least : (k at stop : ℕ) → stop ≤ length s → (h : Head) → Stood s at stop h → LeastHead at h → LeastRead s at (step (value d s) s k at stop h)
+  step_least : (k at stop : ℕ) → stop ≤ length s → (h : Result Head Refused) → Stood s at stop h → LeastHead at h → LeastRead s at (step (value d s) s k at stop h)
   unfolding step encode
-  step_least k at stop l (stand.Leaf c next) w g = content_least s b at next (c) w.content g (omega (arith, w.within))
-  step_least k at stop l (stand.Hold h n next) w g = held_least h at n next (readings (value d s) (children_of h) s k 0 (child_count h n) next stop) g (run_least (children_of h) k 0 (child_count h n) next stop l)
-  step_least k at stop l (stand.Refer n next) w g = go (ltb n k)
+  step_least k at stop l (Ok (stand.Leaf c next)) w g = content_least s b at next (c) w.content g (omega (arith, w.within))
+  step_least k at stop l (Ok (stand.Hold h n next)) w g = held_least h at n next (readings (value d s) (children_of h) s k 0 (child_count h n) next stop) g (run_least (children_of h) k 0 (child_count h n) next stop l)
+  step_least k at stop l (Ok (stand.Refer n next)) w g = go (ltb n k)
     where
       go : (c : Bool) → LeastRead s at (referred c n at next)
       go true = omega (arith, g, ap length (reference_head n 0 0))
       go false = tt
-  step_least k at stop l (stand.Declare n next) w g = declaring_least at n next stop (readings (value d s) Entries s 0 0 n next stop) g (run_least Entries 0 0 n next stop l) l
-  step_least k at stop l (stand.Foreign place n) w g =
+  step_least k at stop l (Ok (stand.Declare n next)) w g = declaring_least at n next stop (readings (value d s) Entries s 0 0 n next stop) g (run_least Entries 0 0 n next stop l) l
+  step_least k at stop l (Ok (stand.Foreign place n)) w g =
       framed_least at place n g w.few (value d s (in_foreign k) place (place + n)) (good (in_foreign k) place (place + n) (omega (arith, w.within))) (value_read d s (in_foreign k) place (place + n))
-  step_least k at stop l (stand.Refuse e place) w g = tt
+  step_least k at stop l (Err x) w g = tt
 
 pub value_least : (s : List ℕ) → Bytes s → length s ≤ limit → (d k at stop : ℕ) → stop ≤ length s → LeastRead s at (value d s k at stop)
 unfolding value

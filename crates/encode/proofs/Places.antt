@@ -4,7 +4,7 @@ use Prim.Native.Nat.{ℕ}
 use mathlib.Core.Bool.{Bool, true, false, cond}
 use mathlib.Core.List.{List, []}
 use lib.ListN.{take, drop}
-use Rattle.rows.specs.Table.{Own}
+use Rattle.rows.specs.Table.{Own, with_place}
 use Rattle.rows.specs.Kinds.{damaged_own}
 use Rattle.format.specs.declared.refusal.Refusal.{Refusal}
 use Rattle.format.specs.declared.refusal.Refusal.TheVariants as why
@@ -13,7 +13,6 @@ use Rattle.rules.specs.declared.kind.Kind.{Kind}
 use Rattle.rules.specs.declared.kind.Kind.TheVariants.{Damaged}
 use Rattle.rules.specs.Shape.{named}
 use Rattle.encode.specs.Encode.{has_bytes, payload_of, moved}
-use Rattle.rows.specs.Table.{with_place}
 
 -- a row with its payload, if it has one, at `place`
 abbrev pub moved_if : Bool → Own → ℕ → Own

@@ -14,9 +14,8 @@ use Rattle.rules.specs.declared.kind.Kind.{Kind}
 use Rattle.rules.specs.declared.kind.Kind.TheVariants.{Constant, Small, Signed, Unsigned, Float, Text, Holds, Binary, Char, Reference, Declaration, Whole, Damaged, Key, Unknown}
 use Rattle.rules.specs.Shape.{named}
 use Rattle.encode.specs.Encode.{head_for, head_of, has_bytes, payload_of, moved, encode, encodes}
-use Rattle.encode.proofs.Places.{moved_if}
+use Rattle.encode.proofs.Places.{moved_if, moved_named}
 use Rattle.encode.proofs.Said.{Said, one, over, under, Saids, none, more, said, saids}
-use Rattle.encode.proofs.Places.{moved_named}
 use Rattle.encode.proofs.Least.{document_least}
 
 -- how many bytes say it

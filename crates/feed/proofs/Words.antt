@@ -1,12 +1,12 @@
 -- A number of up to four bytes is the low word of the body that they are, and a table is filled word by word. Assumes nothing.
 use mathlib.Core.Path.{◌≡◌, refl, sym, ap, ap₂, subst, ◌∙◌}
 use mathlib.Core.Bool.{false}
-use mathlib.Core.List.{List, ◌∷◌}
-use Prim.Native.Nat.{ℕ, suc, ◌+◌, ◌-◌, ◌*◌, ◌^◌, ◌≤◌, ◌<◌}
+use mathlib.Core.List.{List, ◌∷◌, ◌++◌, append-nil}
+use Prim.Native.Nat.{ℕ, zero, suc, ◌+◌, ◌-◌, ◌*◌, ◌^◌, ◌≤◌, ◌<◌}
 use native.Mathlib.Nat.{pow-le-pow_right, zero-lt-suc, mod-eq_of_lt}
 use native.Mathlib.Omega.{arith}
-use lib.ListN.{length, take, drop, get_or, set, length-set, length-drop}
-use lib.Seq.{sets, length-take-le, drop-drop}
+use lib.ListN.{length, take, drop, get_or, set, length-set, length-drop, drop_of_length-le}
+use lib.Seq.{sets, sets-eq, length-take-le, drop-drop}
 use Rattle.wide.specs.declared.wide.Wide.{Wide}
 use Rattle.wide.specs.Number.{number}
 use Rattle.wide.specs.Words.{wide_of}
@@ -43,10 +43,6 @@ pub record Filling (before : List ℕ) (words : ℕ) (s now : List ℕ) (i : ℕ
   pub same : sets now i (words_in (words - i) (drop (4 * i) s)) ≡ sets before 0 (words_in words s)
 
 module _ (before : List ℕ) (words : ℕ) (s : List ℕ) where
-  pub fill_first : Filling before words s before 0
-  fill_first =
-      record { long = refl; upto = omega arith; same = let e : words - 0 ≡ words = omega arith in ap (λ (k : ℕ). sets before 0 (words_in k s)) e }
-
   module _ (now : List ℕ) (i : ℕ) (v : Filling before words s now i) where
     pub fill_next : (x : ℕ) → i < words → x ≡ number (take 4 (drop (4 * i) s)) → Filling before words s (set now i x) (i + 1)
     unfolding words_in
@@ -67,3 +63,17 @@ module _ (before : List ℕ) (words : ℕ) (s : List ℕ) where
     pub fill_last : words ≤ i → now ≡ sets before 0 (words_in words s)
     unfolding words_in
     fill_last h = let z : words - i ≡ 0 = omega arith in sym (ap (λ (k : ℕ). sets now i (words_in k (drop (4 * i) s))) z) ∙ v.same
+
+-- ---- a table of just so many words is those of the bytes
+
+pub words_length : (n : ℕ) (s : List ℕ) → length (words_in n s) ≡ n
+unfolding words_in
+words_length zero s = refl
+words_length (suc n) s = ap suc (words_length n (drop 4 s))
+
+pub filled_whole : (before : List ℕ) (n : ℕ) (s : List ℕ) → length before ≡ n → sets before 0 (words_in n s) ≡ words_in n s
+filled_whole before n s e =
+    let w : length (words_in n s) ≡ n = words_length n s in
+    sets-eq (words_in n s) before 0 (omega (arith, w, e))
+    ∙ ap (λ (r : List ℕ). words_in n s ++ r) (drop_of_length-le before (omega (arith, w, e)))
+    ∙ append-nil (words_in n s)

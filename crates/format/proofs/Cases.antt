@@ -1,5 +1,6 @@
 -- The starred cases and the slips hold, by computation: one list and one statement. Assumes nothing.
 use Prim.Native.Nat.{ℕ, ◌-◌}
+use Rattle.std.specs.Prelude.{Result}
 use mathlib.Core.Path.{◌≡◌, refl}
 use mathlib.Core.List.{List, ◌++◌, map}
 use lib.ListN.{length, replicate}
@@ -9,7 +10,7 @@ use Rattle.wide.specs.Body.{body_value}
 use Rattle.wide.specs.Family.{behind, unmarked, marked, coded}
 use Rattle.text.specs.Check.{sequence, text_from, text_of}
 use Rattle.rows.specs.Table.{words_of}
-use Rattle.format.specs.declared.answer.Answer.{Answer}
+use Rattle.format.specs.declared.unfilled.Unfilled.{Unfilled}
 use Rattle.format.specs.Tree.{size, sizes}
 use Rattle.format.specs.Head.{marker_of, count_at, head_by, head_at, key_at}
 use Rattle.format.specs.Value.{leaf_own, child, readings, in_foreign, step, value, document}
@@ -18,7 +19,7 @@ use Rattle.format.specs.Answer.{depth_limit, answer, table_after}
 use Rattle.format.specs.Starred.{Case, starred, slips}
 
 pub record Outcome : Type 0 where
-  pub says : Answer
+  pub says : Result ℕ Unfilled
   pub table : List ℕ
 
 abbrev pub outcome : Case → Outcome

@@ -1,5 +1,6 @@
 -- What stands at a position begins behind `at`, ends within the stop, and its numbers are within the paper's bounds. Assumes nothing: not
 -- that the numbers of the list are bytes, nor that the stop is within it.
+use Rattle.std.specs.Prelude.{Result, Ok, Err}
 use mathlib.Core.Path.{◌≡◌, refl, sym, subst, ◌∙◌}
 use mathlib.Core.Bool.{Bool, true, false, cond, and-eq-true_iff}
 use mathlib.Core.List.{List, [], ◌∷◌}
@@ -14,24 +15,21 @@ use Rattle.wide.specs.Family.{Family, Coded, is, short, other, coded}
 use Rattle.wide.specs.Members.{text_length, binary_length, array_count, record_count, map_count, key_length, reference_number, declaration_count, foreign_length}
 use Rattle.wide.proofs.Ranks.{size_low, size_high}
 use Rattle.wide.proofs.Families.{cond-case, Takes, coded_takes}
-use Rattle.text.specs.declared.answer.Text.{Text}
-use Rattle.text.specs.declared.answer.Text.TheVariants.{WellFormed, IllFormed}
-use Rattle.text.specs.Check.{text_of}
+use Rattle.text.specs.Check.{Text, text_of}
 use Rattle.rows.specs.Table.{limit}
 use Rattle.rows.specs.Kinds.{kind_float, kind_text, kind_binary}
+use Rattle.format.specs.declared.refused.Refused.{Refused}
 use Rattle.format.specs.declared.refusal.Refusal.{Refusal}
 use Rattle.format.specs.declared.refusal.Refusal.TheVariants as why
 use Rattle.format.specs.declared.head.Count.{Count}
-use Rattle.format.specs.declared.head.Count.TheVariants.{Is, Not}
 use Rattle.format.specs.declared.head.Spelling.{Spelling}
-use Rattle.format.specs.declared.head.Spelling.TheVariants.{At, No}
 use Rattle.format.specs.declared.head.Content.{Content}
 use Rattle.format.specs.declared.head.Content.TheVariants as holds
 use Rattle.format.specs.declared.head.Holder.{Holder}
 use Rattle.format.specs.declared.head.Holder.TheVariants.{Array, Record, Map}
 use Rattle.format.specs.declared.head.Head.{Head}
-use Rattle.format.specs.declared.head.Head.TheVariants.{Leaf, Hold, Refer, Declare, Foreign, Refuse}
-use Rattle.format.specs.Head.{Marker, constant, float, text, array, entries, map, binary, special, nothing, signed_body, unsigned_body, small, char, reference, marker_of, between, count_of, count_at, bodied, spelled, spelling_of, codepoint, char_body, char_head, float_size, text_head, binary_head, holder_head, refer_head, declare_head, foreign_head, special_head, head_by, head_at, key_at}
+use Rattle.format.specs.declared.head.Head.TheVariants.{Leaf, Hold, Refer, Declare, Foreign}
+use Rattle.format.specs.Head.{counts, spells, refuse, Marker, constant, float, text, array, entries, map, binary, special, nothing, signed_body, unsigned_body, small, char, reference, marker_of, between, count_of, count_at, bodied, spelled, spelling_of, codepoint, char_body, char_head, float_size, text_head, binary_head, holder_head, refer_head, declare_head, foreign_head, special_head, head_by, head_at, key_at}
 
 -- ---- a length, count or number
 
@@ -41,9 +39,9 @@ pub record CountAt (at stop n next : ℕ) : Type 0 where
   pub within : next ≤ stop
   pub few : n ≤ limit
 
-abbrev pub Counted : ℕ → ℕ → Count → Type 0
-Counted at stop (Is n next) = CountAt at stop n next
-Counted at stop (Not e) = Unit {0}
+abbrev pub Counted : ℕ → ℕ → Result Count Refusal → Type 0
+Counted at stop (Ok c) = CountAt at stop c.value c.next
+Counted at stop (Err e) = Unit {0}
 
 coded_counted : (at stop l : ℕ) → l ≤ stop - at → (c : Coded) → Takes 1 l c → Counted at stop (count_of at c)
 coded_counted at stop l h (is n used) t =
@@ -85,7 +83,7 @@ pub record IntegerAt (at next place size : ℕ) : Type 0 where
 -- a float, whose marker is b; text that follows RFC 3629; or binary
 pub data Payload (s : List ℕ) (kind place size : ℕ) : Type 0 where
   floating : (b : ℕ) → 0x03 ≤ b → b < 0x08 → kind ≡ kind_float → size ≡ float_size b → Payload s kind place size
-  written : kind ≡ kind_text → text_of (take size (drop place s)) ≡ WellFormed → Payload s kind place size
+  written : kind ≡ kind_text → text_of (take size (drop place s)) ≡ Ok tt → Payload s kind place size
   plain : kind ≡ kind_binary → Payload s kind place size
 
 pub record SpanAt (s : List ℕ) (at next kind place size : ℕ) : Type 0 where
@@ -125,19 +123,19 @@ pub record ForeignAt (at stop place size : ℕ) : Type 0 where
   pub few : size ≤ limit
 
 -- "Place is the first byte of the innermost value position or key being read."
-abbrev pub Stood : List ℕ → ℕ → ℕ → Head → Type 0
-Stood s at stop (Leaf c next) = LeafAt s at stop c next
-Stood s at stop (Hold h n next) = CountAt at stop n next
-Stood s at stop (Refer n next) = CountAt at stop n next
-Stood s at stop (Declare n next) = DeclareAt at stop n next
-Stood s at stop (Foreign place size) = ForeignAt at stop place size
-Stood s at stop (Refuse e place) = place ≡ at
+abbrev pub Stood : List ℕ → ℕ → ℕ → Result Head Refused → Type 0
+Stood s at stop (Ok (Leaf c next)) = LeafAt s at stop c next
+Stood s at stop (Ok (Hold h n next)) = CountAt at stop n next
+Stood s at stop (Ok (Refer n next)) = CountAt at stop n next
+Stood s at stop (Ok (Declare n next)) = DeclareAt at stop n next
+Stood s at stop (Ok (Foreign place size)) = ForeignAt at stop place size
+Stood s at stop (Err w) = w.place ≡ at
 
 -- ---- each form
 
 -- a leaf of a body is one where the body is there
-bodied-case : (P : Head → Type 0) (at : ℕ) (c : Content) (place size stop : ℕ)
-    → (size ≤ stop - place → P (Leaf c (place + size))) → P (Refuse why.Short at) → P (bodied at c place size stop)
+bodied-case : (P : Result Head Refused → Type 0) (at : ℕ) (c : Content) (place size stop : ℕ)
+    → (size ≤ stop - place → P (Ok (Leaf c (place + size)))) → P (refuse why.Short at) → P (bodied at c place size stop)
 bodied-case P at c place size stop f g = cond-case P (leb size (stop - place)) _ _ (λ p. f (leb-true size (stop - place) p)) (λ _. g)
 
 -- the bytes of a text or of a key, behind `at`
@@ -145,34 +143,34 @@ pub record SpeltAt (s : List ℕ) (at stop place size : ℕ) : Type 0 where
   pub begins : at < place
   pub within : place + size ≤ stop
   pub few : size ≤ limit
-  pub spelt : text_of (take size (drop place s)) ≡ WellFormed
+  pub spelt : text_of (take size (drop place s)) ≡ Ok tt
 
-abbrev pub Spelled : List ℕ → ℕ → ℕ → Spelling → Type 0
-Spelled s at stop (At place size) = SpeltAt s at stop place size
-Spelled s at stop (No e) = Unit {0}
+abbrev pub Spelled : List ℕ → ℕ → ℕ → Result Spelling Refusal → Type 0
+Spelled s at stop (Ok x) = SpeltAt s at stop x.place x.size
+Spelled s at stop (Err e) = Unit {0}
 
-spelled_at : (s : List ℕ) (at stop : ℕ) (c : Count) → Counted at stop c → Spelled s at stop (spelling_of s stop c)
-spelled_at s at stop (Is n place) k =
-    cond-case (Spelled s at stop) (leb n (stop - place)) _ _ (λ p. go (text_of (take n (drop place s))) refl (leb-true n (stop - place) p)) (λ _. tt)
+spelled_at : (s : List ℕ) (at stop : ℕ) (c : Result Count Refusal) → Counted at stop c → Spelled s at stop (spelling_of s stop c)
+spelled_at s at stop (Ok c) k =
+    cond-case (Spelled s at stop) (leb c.value (stop - c.next)) _ _ (λ p. go (text_of (take c.value (drop c.next s))) refl (leb-true c.value (stop - c.next) p)) (λ _. tt)
   where
-    go : (t : Text) → text_of (take n (drop place s)) ≡ t → n ≤ stop - place → Spelled s at stop (spelled place n t)
-    go WellFormed e l = record { begins = k.after; within = omega arith; few = k.few; spelt = e }
-    go (IllFormed offset) e l = tt
-spelled_at s at stop (Not e) k = tt
+    go : (t : Text) → text_of (take c.value (drop c.next s)) ≡ t → c.value ≤ stop - c.next → Spelled s at stop (spelled c.next c.value t)
+    go (Ok u) e l = record { begins = k.after; within = omega arith; few = k.few; spelt = e }
+    go (Err i) e l = tt
+spelled_at s at stop (Err e) k = tt
 
 module _ (s : List ℕ) (at stop : ℕ) where
-  text_stood : (x : Spelling) → Spelled s at stop x → Stood s at stop (text_head at x)
-  text_stood (At place n) k =
+  text_stood : (x : Result Spelling Refusal) → Spelled s at stop x → Stood s at stop (text_head at x)
+  text_stood (Ok x) k =
       record {
         after = omega arith;
         within = k.within;
         content = record { begins = k.begins; ends = refl; few = k.few; payload = written refl k.spelt };
       }
-  text_stood (No e) k = refl
+  text_stood (Err e) k = refl
 
-  binary_stood : (c : Count) → Counted at stop c → Stood s at stop (binary_head at stop c)
-  binary_stood (Is n place) k =
-      bodied-case (Stood s at stop) at (holds.Span kind_binary place n) place n stop
+  binary_stood : (c : Result Count Refusal) → Counted at stop c → Stood s at stop (binary_head at stop c)
+  binary_stood (Ok c) k =
+      bodied-case (Stood s at stop) at (holds.Span kind_binary c.next c.value) c.next c.value stop
       (λ l.
       record {
         after = omega arith;
@@ -180,28 +178,28 @@ module _ (s : List ℕ) (at stop : ℕ) where
         content = record { begins = k.after; ends = refl; few = k.few; payload = plain refl };
       })
       refl
-  binary_stood (Not e) k = refl
+  binary_stood (Err e) k = refl
 
-  holder_stood : (h : Holder) (c : Count) → Counted at stop c → Stood s at stop (holder_head h at c)
-  holder_stood h (Is n next) k = k
-  holder_stood h (Not e) k = refl
+  holder_stood : (h : Holder) (c : Result Count Refusal) → Counted at stop c → Stood s at stop (holder_head h at c)
+  holder_stood h (Ok c) k = k
+  holder_stood h (Err e) k = refl
 
-  refer_stood : (c : Count) → Counted at stop c → Stood s at stop (refer_head at c)
-  refer_stood (Is n next) k = k
-  refer_stood (Not e) k = refl
+  refer_stood : (c : Result Count Refusal) → Counted at stop c → Stood s at stop (refer_head at c)
+  refer_stood (Ok c) k = k
+  refer_stood (Err e) k = refl
 
-  declare_stood : (c : Count) → Counted at stop c → Stood s at stop (declare_head at c)
-  declare_stood (Is n next) k =
-      cond-case (Stood s at stop) (eqb n 0) _ _ (λ _. refl)
-      (λ p. let z : n ≡ 0 → ⊥ = eqb-false n 0 p in record { after = k.after; within = k.within; few = k.few; some = omega arith })
-  declare_stood (Not e) k = refl
+  declare_stood : (c : Result Count Refusal) → Counted at stop c → Stood s at stop (declare_head at c)
+  declare_stood (Ok c) k =
+      cond-case (Stood s at stop) (eqb c.value 0) _ _ (λ _. refl)
+      (λ p. let z : c.value ≡ 0 → ⊥ = eqb-false c.value 0 p in record { after = k.after; within = k.within; few = k.few; some = omega arith })
+  declare_stood (Err e) k = refl
 
-  foreign_stood : (c : Count) → Counted at stop c → Stood s at stop (foreign_head at stop c)
-  foreign_stood (Is n place) k =
-      cond-case (Stood s at stop) (leb n (stop - place)) _ _
-      (λ p. record { after = k.after; within = omega (arith, leb-true n (stop - place) p); few = k.few })
+  foreign_stood : (c : Result Count Refusal) → Counted at stop c → Stood s at stop (foreign_head at stop c)
+  foreign_stood (Ok c) k =
+      cond-case (Stood s at stop) (leb c.value (stop - c.next)) _ _
+      (λ p. record { after = k.after; within = omega (arith, leb-true c.value (stop - c.next) p); few = k.few })
       (λ _. refl)
-  foreign_stood (Not e) k = refl
+  foreign_stood (Err e) k = refl
 
   special_stood : Stood s at stop (special_head s at stop)
   special_stood =
@@ -341,7 +339,7 @@ key_spelled s at stop = spelled_at s at stop (count_at key_length s at stop) (co
 
 -- ---- one law for each part: c is the number at `at`
 
-module _ (F : Family) (s : List ℕ) (at stop : ℕ) (c : Count) (count : c ≡ count_at F s at stop) (n next : ℕ) (said : c ≡ Is n next) where
+module _ (F : Family) (s : List ℕ) (at stop : ℕ) (c : Result Count Refusal) (count : c ≡ count_at F s at stop) (n next : ℕ) (said : c ≡ Ok (counts n next)) where
   pub count_at_lem : CountAt at stop n next
   count_at_lem = subst (Counted at stop) (sym count ∙ said) (counted F s at stop)
 
@@ -353,16 +351,16 @@ module _ (F : Family) (s : List ℕ) (at stop : ℕ) (c : Count) (count : c ≡ 
 
 -- ---- h is what stands at `at`
 
-module _ (s : List ℕ) (at stop : ℕ) (h : Head) (head : h ≡ head_at s at stop) where
-  stood_as : (g : Head) → h ≡ g → Stood s at stop g
+module _ (s : List ℕ) (at stop : ℕ) (h : Result Head Refused) (head : h ≡ head_at s at stop) where
+  stood_as : (g : Result Head Refused) → h ≡ g → Stood s at stop g
   stood_as g e = subst (Stood s at stop) (sym head ∙ e) (head_stood s at stop)
 
-  pub refuse_place : (e : Refusal) (place : ℕ) → h ≡ Refuse e place → place ≡ at
-  refuse_place e place q = stood_as (Refuse e place) q
+  pub refuse_place : (e : Refusal) (place : ℕ) → h ≡ refuse e place → place ≡ at
+  refuse_place e place q = stood_as (refuse e place) q
 
-  module _ (c : Content) (next : ℕ) (leaf : h ≡ Leaf c next) where
+  module _ (c : Content) (next : ℕ) (leaf : h ≡ Ok (Leaf c next)) where
     pub leaf_at : LeafAt s at stop c next
-    leaf_at = stood_as (Leaf c next) leaf
+    leaf_at = stood_as (Ok (Leaf c next)) leaf
 
     pub leaf-after : at < next
     leaf-after = leaf_at.after
@@ -408,9 +406,9 @@ module _ (s : List ℕ) (at stop : ℕ) (h : Head) (head : h ≡ head_at s at st
       pub span_within : place + size ≤ stop
       span_within = omega (arith, span-ends, leaf_within)
 
-  module _ (x : Holder) (n next : ℕ) (hold : h ≡ Hold x n next) where
+  module _ (x : Holder) (n next : ℕ) (hold : h ≡ Ok (Hold x n next)) where
     pub hold_at : CountAt at stop n next
-    hold_at = stood_as (Hold x n next) hold
+    hold_at = stood_as (Ok (Hold x n next)) hold
 
     pub hold-after : at < next
     hold-after = hold_at.after
@@ -421,9 +419,9 @@ module _ (s : List ℕ) (at stop : ℕ) (h : Head) (head : h ≡ head_at s at st
     pub hold-few : n ≤ limit
     hold-few = hold_at.few
 
-  module _ (n next : ℕ) (refer : h ≡ Refer n next) where
+  module _ (n next : ℕ) (refer : h ≡ Ok (Refer n next)) where
     pub refer_at : CountAt at stop n next
-    refer_at = stood_as (Refer n next) refer
+    refer_at = stood_as (Ok (Refer n next)) refer
 
     pub refer_within : next ≤ stop
     refer_within = refer_at.within
@@ -431,9 +429,9 @@ module _ (s : List ℕ) (at stop : ℕ) (h : Head) (head : h ≡ head_at s at st
     pub refer-few : n ≤ limit
     refer-few = refer_at.few
 
-  module _ (n next : ℕ) (declare : h ≡ Declare n next) where
+  module _ (n next : ℕ) (declare : h ≡ Ok (Declare n next)) where
     pub declare_at : DeclareAt at stop n next
-    declare_at = stood_as (Declare n next) declare
+    declare_at = stood_as (Ok (Declare n next)) declare
 
     pub declare-after : at < next
     declare-after = declare_at.after
@@ -447,9 +445,9 @@ module _ (s : List ℕ) (at stop : ℕ) (h : Head) (head : h ≡ head_at s at st
     pub declare-some : 1 ≤ n
     declare-some = declare_at.some
 
-  module _ (place size : ℕ) (foreign : h ≡ Foreign place size) where
+  module _ (place size : ℕ) (foreign : h ≡ Ok (Foreign place size)) where
     pub foreign_at : ForeignAt at stop place size
-    foreign_at = stood_as (Foreign place size) foreign
+    foreign_at = stood_as (Ok (Foreign place size)) foreign
 
     pub foreign-after : at < place
     foreign-after = foreign_at.after
@@ -458,7 +456,7 @@ module _ (s : List ℕ) (at stop : ℕ) (h : Head) (head : h ≡ head_at s at st
     foreign_within = foreign_at.within
 
 -- x is the key at `at`
-module _ (s : List ℕ) (at stop : ℕ) (x : Spelling) (key : x ≡ key_at s at stop) (place size : ℕ) (spelt : x ≡ At place size) where
+module _ (s : List ℕ) (at stop : ℕ) (x : Result Spelling Refusal) (key : x ≡ key_at s at stop) (place size : ℕ) (spelt : x ≡ Ok (spells place size)) where
   pub key-at : SpeltAt s at stop place size
   key-at = subst (Spelled s at stop) (sym key ∙ spelt) (key_spelled s at stop)
 

@@ -1,4 +1,5 @@
 -- What a value position, its children and a document read as, a law for each clause of the definitions. Assumes nothing.
+use Rattle.std.specs.Prelude.{Result, Ok, Err}
 use mathlib.Core.Path.{◌≡◌, refl, sym, ap, ◌∙◌}
 use mathlib.Core.Bool.{Bool, true, false}
 use mathlib.Core.List.{List}
@@ -8,19 +9,19 @@ use lib.ListN.{length}
 use lib.Dec.{ltb}
 use borrow.Author.Tests.{lt-ltb, le-ltb, eq-eqb, ne_eqb}
 use Rattle.rows.specs.Kinds.{kind_key, span_own, holder_own, reference_own, declaration_own, foreign_own, damaged_own}
+use Rattle.format.specs.declared.refused.Refused.{Refused}
 use Rattle.format.specs.declared.refusal.Refusal.{Refusal}
 use Rattle.format.specs.declared.refusal.Refusal.TheVariants as why
 use Rattle.format.specs.declared.head.Spelling.{Spelling}
-use Rattle.format.specs.declared.head.Spelling.TheVariants.{At, No}
 use Rattle.format.specs.declared.head.Content.{Content}
 use Rattle.format.specs.declared.head.Holder.{Holder}
 use Rattle.format.specs.declared.head.Head.{Head}
-use Rattle.format.specs.declared.head.Head.TheVariants.{Leaf, Hold, Refer, Declare, Foreign, Refuse}
+use Rattle.format.specs.declared.head.Head.TheVariants.{Leaf, Hold, Refer, Declare, Foreign}
 use Rattle.format.specs.declared.head.Children.{Children}
 use Rattle.format.specs.declared.head.Children.TheVariants.{Entries}
 use Rattle.format.specs.Refusal.{refusal_number}
 use Rattle.format.specs.Tree.{Tree, leaf, refer, hold, declare, foreign, damaged, Trees}
-use Rattle.format.specs.Head.{head_at, key_at}
+use Rattle.format.specs.Head.{spells, refuse, head_at, key_at}
 use Rattle.format.specs.Value.{Reading, right, wrong, Readings, ran, broke, Reader, leaf_own, kind_of, child_count, children_of, keyed, in_turn, child, is_key, in_force, ahead, follow, readings, holding, referred, closed, declaring, framed, in_foreign, step, value, ended, whole, document}
 
 -- ---- a value position
@@ -34,42 +35,42 @@ value_deep d s k at stop z = rw z
 pub value-left : (d : ℕ) (s : List ℕ) (k at stop : ℕ) (x : Reading) → (d ≡ 0 → ⊥) → value (suc (d - 1)) s k at stop ≡ x → value d s k at stop ≡ x
 value-left d s k at stop x left e = let q : d ≡ suc (d - 1) = omega arith in ap (λ (m : ℕ). value m s k at stop) q ∙ e
 
-module _ (d : ℕ) (s : List ℕ) (k at stop : ℕ) (h : Head) (head : h ≡ head_at s at stop) where
-  by_head : (g : Head) → h ≡ g → value (suc d) s k at stop ≡ step (value d s) s k at stop g
+module _ (d : ℕ) (s : List ℕ) (k at stop : ℕ) (h : Result Head Refused) (head : h ≡ head_at s at stop) where
+  by_head : (g : Result Head Refused) → h ≡ g → value (suc d) s k at stop ≡ step (value d s) s k at stop g
   unfolding value
   by_head g e = ap (step (value d s) s k at stop) (sym head ∙ e)
 
-  pub value_refuse : (e : Refusal) (place : ℕ) → h ≡ Refuse e place → value (suc d) s k at stop ≡ wrong e place
+  pub value_refuse : (e : Refusal) (place : ℕ) → h ≡ refuse e place → value (suc d) s k at stop ≡ wrong e place
   unfolding step
-  value_refuse e place q = by_head (Refuse e place) q
+  value_refuse e place q = by_head (refuse e place) q
 
-  pub value-leaf : (c : Content) (next : ℕ) → h ≡ Leaf c next → value (suc d) s k at stop ≡ right (leaf (leaf_own s c)) next
+  pub value-leaf : (c : Content) (next : ℕ) → h ≡ Ok (Leaf c next) → value (suc d) s k at stop ≡ right (leaf (leaf_own s c)) next
   unfolding step
-  value-leaf c next q = by_head (Leaf c next) q
+  value-leaf c next q = by_head (Ok (Leaf c next)) q
 
-  pub value-referred : (n next : ℕ) → h ≡ Refer n next → value (suc d) s k at stop ≡ referred (ltb n k) n at next
+  pub value-referred : (n next : ℕ) → h ≡ Ok (Refer n next) → value (suc d) s k at stop ≡ referred (ltb n k) n at next
   unfolding step
-  value-referred n next q = by_head (Refer n next) q
+  value-referred n next q = by_head (Ok (Refer n next)) q
 
-  pub value-refer : (n next : ℕ) → h ≡ Refer n next → n < k → value (suc d) s k at stop ≡ right (refer (reference_own n 0)) next
+  pub value-refer : (n next : ℕ) → h ≡ Ok (Refer n next) → n < k → value (suc d) s k at stop ≡ right (refer (reference_own n 0)) next
   value-refer n next q l = value-referred n next q ∙ ap (λ (b : Bool). referred b n at next) (lt-ltb n k l)
 
-  pub value_no_entry : (n next : ℕ) → h ≡ Refer n next → k ≤ n → value (suc d) s k at stop ≡ wrong why.NoEntry at
+  pub value_no_entry : (n next : ℕ) → h ≡ Ok (Refer n next) → k ≤ n → value (suc d) s k at stop ≡ wrong why.NoEntry at
   value_no_entry n next q l = value-referred n next q ∙ ap (λ (b : Bool). referred b n at next) (le-ltb n k l)
 
-  module _ (x : Holder) (n next : ℕ) (holder : h ≡ Hold x n next) where
+  module _ (x : Holder) (n next : ℕ) (holder : h ≡ Ok (Hold x n next)) where
     pub value-hold : value (suc d) s k at stop ≡ holding (holder_own (kind_of x) n) (readings (value d s) (children_of x) s k 0 (child_count x n) next stop)
     unfolding step
-    value-hold = by_head (Hold x n next) holder
+    value-hold = by_head (Ok (Hold x n next)) holder
 
     pub value_held : (ts : Trees) (last : ℕ) → readings (value d s) (children_of x) s k 0 (child_count x n) next stop ≡ ran ts last
         → value (suc d) s k at stop ≡ right (hold (holder_own (kind_of x) n) ts) last
     value_held ts last e = value-hold ∙ ap (holding (holder_own (kind_of x) n)) e
 
-  module _ (n next : ℕ) (declares : h ≡ Declare n next) where
+  module _ (n next : ℕ) (declares : h ≡ Ok (Declare n next)) where
     pub value-declare : value (suc d) s k at stop ≡ declaring n (readings (value d s) Entries s 0 0 n next stop) (value d s) stop
     unfolding step
-    value-declare = by_head (Declare n next) declares
+    value-declare = by_head (Ok (Declare n next)) declares
 
     pub value-entry-wrong : (e : Refusal) (place : ℕ) → readings (value d s) Entries s 0 0 n next stop ≡ broke e place → value (suc d) s k at stop ≡ wrong e place
     value-entry-wrong e place q = value-declare ∙ ap (λ (y : Readings). declaring n y (value d s) stop) q
@@ -81,14 +82,14 @@ module _ (d : ℕ) (s : List ℕ) (k at stop : ℕ) (h : Head) (head : h ≡ hea
       pub value-declared : (t : Tree) (end : ℕ) → value d s n last stop ≡ right t end → value (suc d) s k at stop ≡ right (declare (declaration_own n) es t) end
       value-declared t end e = behind-entries ∙ ap (closed n es) e
 
-  module _ (place n : ℕ) (frames : h ≡ Foreign place n) where
+  module _ (place n : ℕ) (frames : h ≡ Ok (Foreign place n)) where
     -- what its body reads as, a document of its own
     abbrev body : Reading
     body = whole (place + n) (value d s (in_foreign k) place (place + n))
 
     pub value-foreign : value (suc d) s k at stop ≡ framed place n body
     unfolding step
-    value-foreign = by_head (Foreign place n) frames
+    value-foreign = by_head (Ok (Foreign place n)) frames
 
     pub value-framed : (t : Tree) (next : ℕ) → body ≡ right t next → value (suc d) s k at stop ≡ right (foreign foreign_own t) (place + n)
     value-framed t next e = value-foreign ∙ ap (framed place n) e
@@ -110,11 +111,11 @@ module _ (stop : ℕ) (x : Reading) where
 
 -- ---- children
 
-module _ (s : List ℕ) (at stop : ℕ) (x : Spelling) (key : x ≡ key_at s at stop) where
-  pub keyed_at : (place n : ℕ) → x ≡ At place n → keyed at (key_at s at stop) ≡ right (leaf (span_own kind_key place n)) (place + n)
+module _ (s : List ℕ) (at stop : ℕ) (x : Result Spelling Refusal) (key : x ≡ key_at s at stop) where
+  pub keyed_at : (place n : ℕ) → x ≡ Ok (spells place n) → keyed at (key_at s at stop) ≡ right (leaf (span_own kind_key place n)) (place + n)
   keyed_at place n e = ap (keyed at) (sym key ∙ e)
 
-  pub keyed_no : (e : Refusal) → x ≡ No e → keyed at (key_at s at stop) ≡ wrong e at
+  pub keyed_no : (e : Refusal) → x ≡ Err e → keyed at (key_at s at stop) ≡ wrong e at
   keyed_no e q = ap (keyed at) (sym key ∙ q)
 
 -- a key, or a value under the entries in force for it

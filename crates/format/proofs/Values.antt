@@ -1,4 +1,5 @@
 -- A tree that is read has no more rows than bytes and ends within the stop; a refusal's place is within the stop, too. By induction on the levels left, inside that on the count of children. Assumes nothing.
+use Rattle.std.specs.Prelude.{Result, Ok, Err}
 use mathlib.Core.Path.{◌≡◌, sym, ap, subst, ◌∙◌}
 use mathlib.Core.Bool.{Bool, true, false}
 use mathlib.Core.List.{List}
@@ -10,12 +11,12 @@ use borrow.Author.Tests.{eqb-true}
 use Rattle.wide.proofs.Ranks.{bool_case}
 use Rattle.rows.specs.Table.{Own}
 use Rattle.rows.specs.Kinds.{holder_own}
+use Rattle.format.specs.declared.refused.Refused.{Refused}
 use Rattle.format.specs.declared.refusal.Refusal.{Refusal}
 use Rattle.format.specs.declared.refusal.Refusal.TheVariants as why
 use Rattle.format.specs.declared.head.Spelling.{Spelling}
-use Rattle.format.specs.declared.head.Spelling.TheVariants.{At, No}
 use Rattle.format.specs.declared.head.Head.{Head}
-use Rattle.format.specs.declared.head.Head.TheVariants.{Leaf, Hold, Refer, Declare, Foreign, Refuse}
+use Rattle.format.specs.declared.head.Head.TheVariants.{Leaf, Hold, Refer, Declare, Foreign}
 use Rattle.format.specs.declared.head.Children.{Children}
 use Rattle.format.specs.declared.head.Children.TheVariants.{Entries}
 use Rattle.format.specs.Refusal.{refusal_number}
@@ -78,10 +79,10 @@ RunAt at stop (broke e place) = BrokeAt at stop place
 here : (at stop : ℕ) → WrongAt at stop at
 here at stop = omega arith
 
-keyed_read : (s : List ℕ) (at stop : ℕ) (x : Spelling) → Spelled s at stop x → ReadAt at stop (keyed at x)
+keyed_read : (s : List ℕ) (at stop : ℕ) (x : Result Spelling Refusal) → Spelled s at stop x → ReadAt at stop (keyed at x)
 unfolding size
-keyed_read s at stop (At place n) k = record { some = omega arith; rows = omega arith; within = k.within }
-keyed_read s at stop (No e) k = here at stop
+keyed_read s at stop (Ok x) k = record { some = omega arith; rows = omega arith; within = k.within }
+keyed_read s at stop (Err e) k = here at stop
 
 -- ---- children
 
@@ -142,19 +143,19 @@ module _ (R : Reader) (good : (k at stop : ℕ) → ReadAt at stop (R k at stop)
   run_read c k i zero at stop h = record { rows = omega arith; within = h }
   run_read c k i (suc n) at stop h = follow-run at stop h (child c R s k i at stop) (child_read c k i at stop) _ (λ m g. run_read c k (i + 1) n m stop g)
 
-  step_read : (k at stop : ℕ) (h : Head) → Stood s at stop h → ReadAt at stop (step R s k at stop h)
+  step_read : (k at stop : ℕ) (h : Result Head Refused) → Stood s at stop h → ReadAt at stop (step R s k at stop h)
   unfolding step size
-  step_read k at stop (Leaf c next) w = record { some = omega arith; rows = omega arith; within = w.within }
-  step_read k at stop (Hold h n next) w =
+  step_read k at stop (Ok (Leaf c next)) w = record { some = omega arith; rows = omega arith; within = w.within }
+  step_read k at stop (Ok (Hold h n next)) w =
       held_read at next stop (holder_own (kind_of h) n) w.after
       (readings R (children_of h) s k 0 (child_count h n) next stop) (run_read (children_of h) k 0 (child_count h n) next stop w.within)
-  step_read k at stop (Refer n next) w = referred_read at stop n next (ltb n k) w
-  step_read k at stop (Declare n next) w =
+  step_read k at stop (Ok (Refer n next)) w = referred_read at stop n next (ltb n k) w
+  step_read k at stop (Ok (Declare n next)) w =
       declaring_read at next stop n w.after (readings R Entries s 0 0 n next stop) (run_read Entries 0 0 n next stop w.within) R (λ m. good n m stop)
-  step_read k at stop (Foreign place n) w =
+  step_read k at stop (Ok (Foreign place n)) w =
       let e : ℕ = place + n in
       framed_read at stop place n w (whole e (R (in_foreign k) place e)) (whole_read place e (R (in_foreign k) place e) (good (in_foreign k) place e))
-  step_read k at stop (Refuse e place) w = omega arith
+  step_read k at stop (Err x) w = omega arith
 
 -- what a value position is read as
 pub value_read : (d : ℕ) (s : List ℕ) (k at stop : ℕ) → ReadAt at stop (value d s k at stop)

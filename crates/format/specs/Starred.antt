@@ -1,15 +1,15 @@
 -- The paper's starred cases that speak of reading, the slips that it names, and three cases of request §2. Assumes nothing: these are definitions.
-use Rattle.std.specs.Prelude.{ℕ, zero, suc, ◌*◌, List, [], ◌∷◌, ◌++◌, replicate}
+use Rattle.std.specs.Prelude.{ℕ, zero, suc, ◌*◌, List, [], ◌∷◌, ◌++◌, replicate, Result, Ok, Err}
 use Rattle.rows.specs.Table.{words_per_row}
 use Rattle.format.specs.declared.refusal.Refusal.TheVariants as why
-use Rattle.format.specs.declared.answer.Answer.{Answer}
-use Rattle.format.specs.declared.answer.Answer.TheVariants.{Accepted, Refused, Full}
+use Rattle.format.specs.declared.unfilled.Unfilled.{Unfilled}
+use Rattle.format.specs.declared.unfilled.Unfilled.TheVariants.{Refused, Full}
 
 -- bytes read into a lent table, the answer, and the words of the used rows
 pub record Case : Type 0 where
   pub bytes : List ℕ
   pub table : List ℕ
-  pub says : Answer
+  pub says : Result ℕ Unfilled
   pub rows : List ℕ
 
 -- a table of that many rows, and two words more, none of them 0
@@ -17,16 +17,16 @@ abbrev pub dirty : ℕ → List ℕ
 dirty rows = replicate 2 7 ++ replicate (words_per_row * rows) 9
 
 abbrev reads_into : ℕ → List ℕ → ℕ → List ℕ → Case
-reads_into lent bytes n rows = record { bytes = bytes; table = dirty lent; says = Accepted n; rows = rows }
+reads_into lent bytes n rows = record { bytes = bytes; table = dirty lent; says = Ok n; rows = rows }
 
 abbrev reads : List ℕ → ℕ → List ℕ → Case
 reads bytes n rows = reads_into 8 bytes n rows
 
-abbrev refused : List ℕ → Answer → Case
-refused bytes answer = record { bytes = bytes; table = dirty 8; says = answer; rows = [] }
+abbrev refused : List ℕ → Unfilled → Case
+refused bytes why = record { bytes = bytes; table = dirty 8; says = Err why; rows = [] }
 
 abbrev full : List ℕ → ℕ → ℕ → Case
-full bytes lent needed = record { bytes = bytes; table = dirty lent; says = Full needed; rows = [] }
+full bytes lent needed = record { bytes = bytes; table = dirty lent; says = Err (Full needed); rows = [] }
 
 -- a row
 abbrev row : ℕ → ℕ → ℕ → ℕ → ℕ → ℕ → List ℕ

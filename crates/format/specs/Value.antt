@@ -1,5 +1,5 @@
 -- What a value position, and a document, read as. Assumes nothing: these are definitions.
-use Rattle.std.specs.Prelude.{ℕ, zero, suc, ◌+◌, ◌*◌, ◌%◌, Bool, true, false, cond, List, length, take, drop, ltb, eqb}
+use Rattle.std.specs.Prelude.{ℕ, zero, suc, ◌+◌, ◌*◌, ◌%◌, Bool, true, false, cond, List, length, take, drop, ltb, eqb, Result, Ok, Err}
 use Rattle.wide.specs.declared.wide.Wide.{Wide}
 use Rattle.wide.specs.Words.{wide_of}
 use Rattle.wide.specs.Body.{body_value}
@@ -7,16 +7,16 @@ use Rattle.wide.specs.Family.{number_of, has_number}
 use Rattle.wide.specs.Members.{integer_signed, integer_unsigned}
 use Rattle.rows.specs.Table.{Own}
 use Rattle.rows.specs.Kinds.{kind_small, kind_signed, kind_unsigned, kind_array, kind_record, kind_map, kind_key, own, constant_own, span_own, holder_own, char_own, reference_own, declaration_own, foreign_own, damaged_own}
+use Rattle.format.specs.declared.refused.Refused.{Refused}
 use Rattle.format.specs.declared.refusal.Refusal.{Refusal}
 use Rattle.format.specs.declared.refusal.Refusal.TheVariants as why
 use Rattle.format.specs.declared.head.Spelling.{Spelling}
-use Rattle.format.specs.declared.head.Spelling.TheVariants.{At, No}
 use Rattle.format.specs.declared.head.Content.{Content}
 use Rattle.format.specs.declared.head.Content.TheVariants as holds
 use Rattle.format.specs.declared.head.Holder.{Holder}
 use Rattle.format.specs.declared.head.Holder.TheVariants.{Array, Record, Map}
 use Rattle.format.specs.declared.head.Head.{Head}
-use Rattle.format.specs.declared.head.Head.TheVariants.{Leaf, Hold, Refer, Declare, Foreign, Refuse}
+use Rattle.format.specs.declared.head.Head.TheVariants.{Leaf, Hold, Refer, Declare, Foreign}
 use Rattle.format.specs.declared.head.Children.{Children}
 use Rattle.format.specs.declared.head.Children.TheVariants.{Plain, Keyed, Entries}
 use Rattle.format.specs.Refusal.{refusal_number}
@@ -75,9 +75,9 @@ children_of Record = Keyed
 children_of Map = Plain
 
 -- "A record key is a length and text": a key's row, by how it is spelled
-abbrev pub keyed : ℕ → Spelling → Reading
-keyed at (At place size) = right (leaf (span_own kind_key place size)) (place + size)
-keyed at (No e) = wrong e at
+abbrev pub keyed : ℕ → Result Spelling Refusal → Reading
+keyed at (Ok x) = right (leaf (span_own kind_key x.place x.size)) (x.place + x.size)
+keyed at (Err e) = wrong e at
 
 -- "a record: key and value in turn": whether child number i is a key
 abbrev pub is_key : Children → ℕ → Bool
@@ -155,13 +155,13 @@ unfoldable pub in_foreign : ℕ → ℕ
 in_foreign around = 0
 
 -- by what stands at the position, with `around` entries in force; R reads one level down
-unfoldable pub step : Reader → List ℕ → ℕ → ℕ → ℕ → Head → Reading
-step R s around at stop (Leaf c next) = right (leaf (leaf_own s c)) next
-step R s around at stop (Hold h n next) = holding (holder_own (kind_of h) n) (readings R (children_of h) s around 0 (child_count h n) next stop)
-step R s around at stop (Refer n next) = referred (ltb n around) n at next
-step R s around at stop (Declare n next) = declaring n (readings R Entries s 0 0 n next stop) R stop
-step R s around at stop (Foreign place size) = framed place size (whole (place + size) (R (in_foreign around) place (place + size)))
-step R s around at stop (Refuse e place) = wrong e place
+unfoldable pub step : Reader → List ℕ → ℕ → ℕ → ℕ → Result Head Refused → Reading
+step R s around at stop (Ok (Leaf c next)) = right (leaf (leaf_own s c)) next
+step R s around at stop (Ok (Hold h n next)) = holding (holder_own (kind_of h) n) (readings R (children_of h) s around 0 (child_count h n) next stop)
+step R s around at stop (Ok (Refer n next)) = referred (ltb n around) n at next
+step R s around at stop (Ok (Declare n next)) = declaring n (readings R Entries s 0 0 n next stop) R stop
+step R s around at stop (Ok (Foreign place size)) = framed place size (whole (place + size) (R (in_foreign around) place (place + size)))
+step R s around at stop (Err w) = wrong w.why w.place
 
 -- "elements, record values, map keys and values, declared entries, a declaration's value and a foreign body are one deeper than what holds
 -- them": a value position with `levels` levels left, its own with them; "9 deep" where none is

@@ -1,21 +1,19 @@
-use crate::refusal::Refusal;
-
-// A length, count or number and the place behind it, or why there is none.
-#[derive(Clone, Copy)]
-pub enum Count {
-    Is { value: usize, next: usize },
-    Not { why: Refusal },
+// A length, count or number and the place behind it.
+#[derive(Clone, Copy, Debug, PartialEq, Eq)]
+pub struct Count {
+    pub value: usize,
+    pub next: usize,
 }
 
-// Where the bytes of a text or of a key stand, or why there is none.
-#[derive(Clone, Copy)]
-pub enum Spelling {
-    At { place: usize, size: usize },
-    No { why: Refusal },
+// Where the bytes of a text or of a key stand.
+#[derive(Clone, Copy, Debug, PartialEq, Eq)]
+pub struct Spelling {
+    pub place: usize,
+    pub size: usize,
 }
 
 // What a leaf holds.
-#[derive(Clone, Copy)]
+#[derive(Clone, Copy, Debug, PartialEq, Eq)]
 pub enum Content {
     Constant {
         kind: u32,
@@ -39,7 +37,7 @@ pub enum Content {
 }
 
 // What holds elements or entries.
-#[derive(Clone, Copy)]
+#[derive(Clone, Copy, Debug, PartialEq, Eq)]
 pub enum Holder {
     Array,
     Record,
@@ -47,8 +45,8 @@ pub enum Holder {
 }
 
 // What stands at a value position: a leaf and the place behind it; a holder, a declaration, and the place of the first that it holds; a
-// reference; a foreign body; or a refusal.
-#[derive(Clone, Copy)]
+// reference; or a foreign body.
+#[derive(Clone, Copy, Debug, PartialEq, Eq)]
 pub enum Head {
     Leaf {
         content: Content,
@@ -71,14 +69,10 @@ pub enum Head {
         place: usize,
         size: usize,
     },
-    Refuse {
-        why: Refusal,
-        place: usize,
-    },
 }
 
 // How the children of a holder are read: values; keys and values in turn; or entries, each in force for those behind it.
-#[derive(Clone, Copy)]
+#[derive(Clone, Copy, Debug, PartialEq, Eq)]
 pub enum Children {
     Plain,
     Keyed,

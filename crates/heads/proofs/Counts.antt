@@ -1,4 +1,5 @@
 -- Numbers of the families at a place: in the marker itself, behind it, and as the variable integer's reader finds them. Assumes nothing.
+use Rattle.std.specs.Prelude.{Ok, Err, Result, IfOk}
 use Prim.Native.Nat.{ℕ, suc, ◌+◌, ◌-◌, ◌*◌, ◌%◌, ◌^◌, ◌≤◌, ◌<◌}
 use mathlib.Core.Path.{◌≡◌, ◌∙◌, sym, ap, ap₂, refl, subst}
 use mathlib.Core.Bool.{Bool, true, false, cond}
@@ -10,11 +11,12 @@ use lib.Seq.{drop-cons, length-take-le}
 use lib.Dec.{leb, eqb}
 use borrow.Author.Tests.{le-leb, lt-leb, lt-ltb, le-ltb, leb-true, leb-false, eq-eqb}
 use Rattle.wide.specs.declared.wide.Wide.{Wide}
-use Rattle.variable.specs.declared.answer.Read.TheVariants as read
 use Rattle.wide.specs.Words.{wide_end, value_of, wide_of}
 use Rattle.wide.specs.Family.{Run, behind, has_byte, number_of, Coded, is, short, other, longer, unmarked, marked, coded}
 use Rattle.wide.specs.Members.{run, none, unsigned, headed, key_length}
-use Rattle.variable.specs.Answer.{read_as, read_of}
+use Rattle.variable.specs.declared.got.Got.{Got}
+use Rattle.variable.specs.declared.short.Short.{Short}
+use Rattle.variable.specs.Answer.{read_as, read_of, read_value, read_used}
 use Rattle.wide.proofs.Numbers.{Bytes, bytes-all, bytes_take, bytes_drop}
 use Rattle.wide.proofs.Wides.{value_wide}
 use Rattle.wide.proofs.Runs.{bytes_whole}
@@ -23,8 +25,10 @@ use Rattle.wide.proofs.Sound.{sound_variable}
 use Rattle.variable.proofs.Variables.{none_before, every_byte}
 use Rattle.rows.specs.Table.{limit}
 use Rattle.format.specs.declared.refusal.Refusal.TheVariants as why
-use Rattle.format.specs.declared.head.Count.TheVariants.{Is, Not}
-use Rattle.format.specs.Head.{between, count_of, count_at}
+use Rattle.format.proofs.Heads.{Counted, counted}
+use Rattle.format.specs.declared.head.Count.{Count}
+use Rattle.format.specs.declared.refusal.Refusal.{Refusal}
+use Rattle.format.specs.Head.{counts, between, count_of, count_at}
 
 -- ---- parts of the bytes
 
@@ -52,7 +56,7 @@ headed-unmarked alone ms [] = refl
 headed-unmarked alone ms (b ∷ s) = refl
 
 count-longer : (at : ℕ) (c : Coded) → count_of at (longer c) ≡ count_of (at + 1) c
-count-longer at (is n used) = let e : at + suc used ≡ at + 1 + used = omega arith in ap (λ (x : ℕ). cond (leb n limit) (Is n x) (Not why.Huge)) e
+count-longer at (is n used) = let e : at + suc used ≡ at + 1 + used = omega arith in ap (λ (x : ℕ). cond (leb n limit) (Ok (counts n x)) (Err why.Huge)) e
 count-longer at short = refl
 count-longer at other = refl
 
@@ -89,7 +93,7 @@ alone_distance low b l h = omega arith
 
 pub count-alone : (low count from : ℕ) (ms s : List ℕ) (at stop : ℕ) → at < stop → stop ≤ length s → low ≤ get_or s at 0 → get_or s at 0 < low + count
     → low + count ≤ 256 → from + count ≤ 256
-    → count_at (headed (run low count from) ms) s at stop ≡ Is (from + (get_or s at 0 - low)) (at + 1)
+    → count_at (headed (run low count from) ms) s at stop ≡ Ok (counts (from + (get_or s at 0 - low)) (at + 1))
 unfolding count_at coded
 count-alone low count from ms s at stop l h a b c d =
     let x : ℕ = get_or s at 0 in
@@ -103,11 +107,11 @@ count-alone low count from ms s at stop l h a b c d =
 
 -- ---- the variable integer of a length
 
-pub length_missing : (s : List ℕ) (at stop : ℕ) → stop ≤ at → Not why.Short ≡ count_at key_length s at stop
+pub length_missing : (s : List ℕ) (at stop : ℕ) → stop ≤ at → Err why.Short ≡ count_at key_length s at stop
 unfolding count_at coded
 length_missing s at stop h = sym (ap (λ (p : List ℕ). count_of at (coded unsigned p)) (part_none s at stop h))
 
-pub length-one : (s : List ℕ) (at stop b : ℕ) → at < stop → stop ≤ length s → b ≡ get_or s at 0 → b < 248 → Is b (at + 1) ≡ count_at key_length s at stop
+pub length-one : (s : List ℕ) (at stop b : ℕ) → at < stop → stop ≤ length s → b ≡ get_or s at 0 → b < 248 → Ok (counts b (at + 1)) ≡ count_at key_length s at stop
 unfolding count_at unmarked
 length-one s at stop b l h e g =
     let rest : List ℕ = between s (at + 1) stop in
@@ -124,57 +128,66 @@ module _ (s : List ℕ) (at stop : ℕ) (bytes : (i : ℕ) → get_or s i 0 < 25
   here = between s at stop
 
   -- what the reader got is what stands there
-  record Got (w : Wide) (used : ℕ) : Type 0 where
+  record Stands (g : Got) : Type 0 where
     value : ℕ
-    stands : coded unsigned here ≡ is value used
-    same : value_of w ≡ value
-    there : used ≤ length here
+    stands : coded unsigned here ≡ is value g.used
+    same : value_of g.value ≡ value
+    there : g.used ≤ length here
 
-  got : (w : Wide) (used : ℕ) → read.Got w used ≡ read_of unsigned here → Got w used
+  stands_there : (g : Got) → Ok g ≡ read_of unsigned here → Stands g
   unfolding read_of
-  got w used e = of (coded unsigned here) refl (sym e)
+  stands_there got e = of (coded unsigned here) refl (sym e)
     where
-      of : (c : Coded) → coded unsigned here ≡ c → read_as c ≡ read.Got w used → Got w used
+      of : (c : Coded) → coded unsigned here ≡ c → read_as c ≡ Ok got → Stands got
       of (is n u) q g =
           let r : Reads unsigned here n u = reads unsigned (sound_variable false) here n u (part_bytes_lem s at stop bytes) q in
-          let v : wide_of n ≡ w = cc in
-          let p : u ≡ used = cc in
+          let v : wide_of n ≡ got.value = ap read_value g in
+          let p : u ≡ got.used = ap read_used g in
           let t : Takes 1 (length here) (is n u) = subst (Takes 1 (length here)) q (coded_takes unsigned here) in
           record { value = n; stands = q ∙ ap (is n) p; same = ap value_of (sym v) ∙ value_wide n r.small; there = omega (arith, t.1) }
       of short q g = absurd (let z : ◌≡◌ {A = ℕ} 0 1 = cc in omega arith)
       of other q g = absurd (let z : ◌≡◌ {A = ℕ} 0 1 = cc in omega arith)
 
-  pub got_there : (w : Wide) (used : ℕ) → read.Got w used ≡ read_of unsigned here → at ≤ stop → stop ≤ length s → at + used ≤ stop
-  got_there w used e l h = omega (arith, (got w used e).there, part_length s at stop l h)
+  pub got_there : (got : Got) → Ok got ≡ read_of unsigned here → at ≤ stop → stop ≤ length s → at + got.used ≤ stop
+  got_there got e l h = omega (arith, (stands_there got e).there, part_length s at stop l h)
 
-  pub got_is : (w : Wide) (used v : ℕ) (t : Bool) → read.Got w used ≡ read_of unsigned here → t ≡ leb (value_of w) limit → t ≡ true → v ≡ w.w0
-      → Is v (at + used) ≡ count_at key_length s at stop
+  pub got_is : (got : Got) (v : ℕ) (t : Bool) → Ok got ≡ read_of unsigned here → t ≡ leb (value_of got.value) limit → t ≡ true → v ≡ got.value.w0
+      → Ok (counts v (at + got.used)) ≡ count_at key_length s at stop
   unfolding count_at
-  got_is w used v t e a b c =
-      let g : Got w used = got w used e in
+  got_is got v t e a b c =
+      let w : Wide = got.value in
+      let g : Stands got = stands_there got e in
       let l : value_of w ≤ limit = leb-true (value_of w) limit (sym a ∙ b) in
       let m : v ≡ g.value = c ∙ low_of w.w0 w.w1 w.w2 w.w3 l ∙ g.same in
       let small : g.value ≤ limit = omega (arith, g.same) in
-      ap (λ (x : ℕ). Is x (at + used)) m
+      ap (λ (x : ℕ). Ok (counts x (at + got.used))) m
       ∙ sym (ap (count_of at) g.stands ∙ cond_yes (leb g.value limit) _ _ (le-leb g.value limit small))
     where
       low_of : (a b c d : ℕ) → a + 2 ^ 32 * (b + 2 ^ 32 * (c + 2 ^ 32 * d)) ≤ limit → a ≡ a + 2 ^ 32 * (b + 2 ^ 32 * (c + 2 ^ 32 * d))
       low_of a b c d h = omega arith
 
-  pub got_huge : (w : Wide) (used : ℕ) (t : Bool) → read.Got w used ≡ read_of unsigned here → t ≡ leb (value_of w) limit → t ≡ false
-      → Not why.Huge ≡ count_at key_length s at stop
+  pub got_huge : (got : Got) (t : Bool) → Ok got ≡ read_of unsigned here → t ≡ leb (value_of got.value) limit → t ≡ false
+      → Err why.Huge ≡ count_at key_length s at stop
   unfolding count_at
-  got_huge w used t e a b =
-      let g : Got w used = got w used e in
-      let l : limit < value_of w = leb-false (value_of w) limit (sym a ∙ b) in
+  got_huge got t e a b =
+      let g : Stands got = stands_there got e in
+      let l : limit < value_of got.value = leb-false (value_of got.value) limit (sym a ∙ b) in
       let big : limit < g.value = omega (arith, g.same) in
       sym (ap (count_of at) g.stands ∙ cond_no (leb g.value limit) _ _ (lt-leb g.value limit big))
 
-  pub got_short : read.Short ≡ read_of unsigned here → Not why.Short ≡ count_at key_length s at stop
+  pub got_short : (e : Short) → Err e ≡ read_of unsigned here → Err why.Short ≡ count_at key_length s at stop
   unfolding count_at read_of
-  got_short e = of (coded unsigned here) refl (sym e)
+  got_short refused e = of (coded unsigned here) refl (sym e)
     where
-      of : (c : Coded) → coded unsigned here ≡ c → read_as c ≡ read.Short → Not why.Short ≡ count_of at (coded unsigned here)
+      of : (c : Coded) → coded unsigned here ≡ c → read_as c ≡ Err refused → Err why.Short ≡ count_of at (coded unsigned here)
       of (is n u) q g = absurd (let z : ◌≡◌ {A = ℕ} 0 1 = cc in omega arith)
       of short q g = sym (ap (count_of at) q)
       of other q g = absurd (every_byte false here (part_bytes_lem s at stop bytes) q)
+
+-- what stands there ends within the stop
+pub length_within : (s : List ℕ) (at stop : ℕ) (r : Result Count Refusal) → r ≡ count_at key_length s at stop → IfOk r (λ c. c.next ≤ stop)
+length_within s at stop r e = subst (λ (x : Result Count Refusal). IfOk x (λ c. c.next ≤ stop)) (sym e) (go (count_at key_length s at stop) (counted key_length s at stop))
+  where
+    go : (x : Result Count Refusal) → Counted at stop x → IfOk x (λ c. c.next ≤ stop)
+    go (Ok c) k = k.within
+    go (Err e) k = tt

@@ -5,21 +5,18 @@ ghost use Rattle.format.specs.Head.{integer_head, special_head, head_at};
 use crate::behind;
 use crate::body::{bodied, char_head, float_size, text_body};
 use crate::count::index;
-use format::{Content, Head, Holder, Refusal};
+use format::{Content, Head, Holder, Refusal, Refused};
 use rows::Row;
 use wide::size::size_at;
 
 // The marker 0d.
-fn special(s: &[u8], at: usize, stop: usize) -> Head
+fn special(s: &[u8], at: usize, stop: usize) -> Result<Head, Refused>
     requires { (at < stop) × (stop ≤ length s.now) × (get_or s.now at 0 ≡ 13) }
     ensures { result ≡ special_head s.now at stop }
 {
     let second = at + 1;
     if stop <= second {
-        return Head::Refuse {
-            why: Refusal::Short,
-            place: at,
-        };
+        return Err(Refusal::Short.at(at));
     }
     let b = index(s[second]);
     if b == 13 {
@@ -28,14 +25,11 @@ fn special(s: &[u8], at: usize, stop: usize) -> Head
     if b == 0 {
         return behind::foreign(s, at, second + 1, stop);
     }
-    Head::Refuse {
-        why: Refusal::Marker,
-        place: at,
-    }
+    Err(Refusal::Marker.at(at))
 }
 
 // The markers 10 to 1f: integers with a body.
-fn integer(at: usize, stop: usize, rank: usize, signed: bool) -> Head
+fn integer(at: usize, stop: usize, rank: usize, signed: bool) -> Result<Head, Refused>
     requires { (at < stop) × (rank < 8) }
     ensures { result ≡ integer_head at stop rank signed }
 {
@@ -50,7 +44,7 @@ fn integer(at: usize, stop: usize, rank: usize, signed: bool) -> Head
 }
 
 // The markers 08 to 0f.
-fn special_low(s: &[u8], at: usize, stop: usize, b: usize) -> Head
+fn special_low(s: &[u8], at: usize, stop: usize, b: usize) -> Result<Head, Refused>
     requires { (at < stop) × (stop ≤ length s.now) × (b ≡ get_or s.now at 0) × (8 ≤ b) × (b < 16) }
     ensures { result ≡ head_at s.now at stop }
 {
@@ -73,25 +67,22 @@ fn special_low(s: &[u8], at: usize, stop: usize, b: usize) -> Head
     if b == 13 {
         return special(s, at, stop);
     }
-    Head::Refuse {
-        why: Refusal::Marker,
-        place: at,
-    }
+    Err(Refusal::Marker.at(at))
 }
 
 // The markers 00 to 1f.
-fn low(s: &[u8], at: usize, stop: usize, b: usize) -> Head
+fn low(s: &[u8], at: usize, stop: usize, b: usize) -> Result<Head, Refused>
     requires { (at < stop) × (stop ≤ length s.now) × (b ≡ get_or s.now at 0) × (b < 32) }
     ensures { result ≡ head_at s.now at stop }
 {
     let next = at + 1;
     if b < 3 {
-        return Head::Leaf {
+        return Ok(Head::Leaf {
             content: Content::Constant {
                 kind: (b + 1) as u32,
             },
             next,
-        };
+        });
     }
     if b < 8 {
         let size = float_size(b);
@@ -112,54 +103,51 @@ fn low(s: &[u8], at: usize, stop: usize, b: usize) -> Head
 }
 
 // The markers a0 to ff.
-fn high(s: &[u8], at: usize, stop: usize, b: usize) -> Head
+fn high(s: &[u8], at: usize, stop: usize, b: usize) -> Result<Head, Refused>
     requires { (at < stop) × (stop ≤ length s.now) × (b ≡ get_or s.now at 0) × (160 ≤ b) × (b < 256) }
     ensures { result ≡ head_at s.now at stop }
 {
     let next = at + 1;
     if b < 176 {
-        return Head::Hold {
+        return Ok(Head::Hold {
             holder: Holder::Array,
             count: b - 159,
             next,
-        };
+        });
     }
     if b < 184 {
-        return Head::Hold {
+        return Ok(Head::Hold {
             holder: Holder::Record,
             count: b - 175,
             next,
-        };
+        });
     }
     if b < 192 {
-        return Head::Hold {
+        return Ok(Head::Hold {
             holder: Holder::Map,
             count: b - 183,
             next,
-        };
+        });
     }
     if b == 192 {
         return char_head(s, at, stop);
     }
     if b < 255 {
-        return Head::Refer {
+        return Ok(Head::Refer {
             number: b - 193,
             next,
-        };
+        });
     }
     behind::reference(s, at, next, stop)
 }
 
 // What stands at `at`, in bytes that end at `stop`.
-pub fn head_at(s: &[u8], at: usize, stop: usize) -> Head
+pub fn head_at(s: &[u8], at: usize, stop: usize) -> Result<Head, Refused>
     requires { stop ≤ length s.now }
     ensures { result ≡ head_at s.now at stop }
 {
     if stop <= at {
-        return Head::Refuse {
-            why: Refusal::Short,
-            place: at,
-        };
+        return Err(Refusal::Short.at(at));
     }
     let marker = s[at];
     let b = index(marker);
@@ -167,10 +155,10 @@ pub fn head_at(s: &[u8], at: usize, stop: usize) -> Head
         return low(s, at, stop, b);
     }
     if b < 128 {
-        return Head::Leaf {
+        return Ok(Head::Leaf {
             content: Content::Small { marker },
             next: at + 1,
-        };
+        });
     }
     if b < 160 {
         return text_body(s, at, at + 1, b - 127, stop);

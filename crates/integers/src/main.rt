@@ -2,152 +2,97 @@
 // bytes used, or the refusal; then the shortest form, and what writing it into one byte less answers.
 #![tactic(auto)]
 
-ghost use Rattle.line.specs.Counts.{IsPrefixLen};
-
 use line::input::read_full;
+use line::pairs::Pairs;
+use numbers::{Beside, Numbered};
+use std::fmt::Display;
 use std::io;
 use std::io::Write;
-use variable::{Read, Written};
+use variable::{Got, NoRoom, Short};
 use wide::Wide;
 
-// What stands at the front of `s`.
-fn show_read<W: Write>(s: &[u8], r: Read, name: u8, output: &mut W) -> io::Result<()> {
-    let mut out = [0u8; 256];
-    let mut end = line::byte(&mut out, 0, name);
-    end = line::pairs(&mut out, end, s);
-    end = line::byte(&mut out, end, b':');
-    let w = r.value();
-    end = line::number(&mut out, end, w.w0);
-    end = line::number(&mut out, end, w.w1);
-    end = line::number(&mut out, end, w.w2);
-    end = line::number(&mut out, end, w.w3);
-    end = line::byte(&mut out, end, b' ');
-    end = line::decimal(&mut out, end, r.used() as u64);
-    end = line::byte(&mut out, end, b'\n');
-    output.write_all(&out[..end])
+// What an output holds before anything is written to it.
+const FRESH: u8 = 85;
+
+// A line of the program. What does not fit is left out.
+fn put<W: Write>(text: impl Display + Drop, output: &mut W) -> io::Result<()> {
+    line::put(&mut [0; 256], text, output)
 }
 
-// Nothing whole stands there.
-fn show_refused<W: Write>(s: &[u8], r: Read, name: u8, output: &mut W) -> io::Result<()> {
-    let mut out = [0u8; 256];
-    let mut end = line::byte(&mut out, 0, name);
-    end = line::pairs(&mut out, end, s);
-    end = line::bytes(&mut out, end, b": refused");
-    end = line::number(&mut out, end, r.number());
-    end = line::byte(&mut out, end, b'\n');
-    output.write_all(&out[..end])
-}
-
-fn write(out: &mut [u8], w: Wide, signed: bool) -> Written {
-    if signed {
-        variable::write_signed(out, w)
+// A word where a byte that has to stay does not.
+fn touched(rest: &[u8]) -> &'static str {
+    if rest.iter().all(|b| *b == FRESH) {
+        ""
     } else {
-        variable::write_unsigned(out, w)
+        " touched"
     }
 }
 
-// Whether every byte from `at` on is still 85, which a fresh output holds.
-fn fresh(out: &[u8], at: usize) -> bool {
-    for i in at..out.len() {
-        if out[i] != 85 {
-            return false;
-        }
-    }
-    true
-}
-
-// The first `used` bytes of an output.
-fn put_form(out: &mut [u8], at: usize, form: &[u8], used: usize) -> usize
-    ensures { IsPrefixLen result out.new }
-{
-    if used <= form.len() {
-        return line::pairs(out, at, &form[..used]);
-    }
-    line::bytes(out, at, b" too long")
-}
-
-// A word where a byte of an output from `from` on is not fresh.
-fn put_touched(out: &mut [u8], at: usize, form: &[u8], from: usize) -> usize
-    ensures { IsPrefixLen result out.new }
-{
-    if fresh(form, from) {
-        return line::bytes(out, at, b"");
-    }
-    line::bytes(out, at, b" touched")
-}
-
-// The shortest form.
+// The shortest form, in the first `used` bytes of an output.
 fn show_form<W: Write>(form: &[u8], used: usize, output: &mut W) -> io::Result<()> {
-    let mut out = [0u8; 256];
-    let mut end = line::bytes(&mut out, 0, b"  ->");
-    end = put_form(&mut out, end, form, used);
-    end = put_touched(&mut out, end, form, used);
-    end = line::byte(&mut out, end, b'\n');
-    output.write_all(&out[..end])
-}
-
-// The answer for an output that is too small.
-fn show_small<W: Write>(form: &[u8], r: Written, output: &mut W) -> io::Result<()> {
-    let mut out = [0u8; 256];
-    let mut end = line::byte(&mut out, 0, b' ');
-    end = line::number(&mut out, end, r.number());
-    end = line::byte(&mut out, end, b' ');
-    end = line::decimal(&mut out, end, r.beside() as u64);
-    end = put_touched(&mut out, end, form, 0);
-    end = line::byte(&mut out, end, b'\n');
-    output.write_all(&out[..end])
-}
-
-// Into an output of `room` bytes.
-fn write_into(form: &mut [u8], room: usize, w: Wide, signed: bool) -> Written {
-    if room <= form.len() {
-        return write(&mut form[..room], w, signed);
-    }
-    write(form, w, signed)
+    let Some((form, rest)) = form.split_at_checked(used) else {
+        return put("  -> too long", output);
+    };
+    put(format_args!("  ->{}{}", Pairs(form), touched(rest)), output)
 }
 
 // The shortest form, and what one byte less answers.
-fn show_written<W: Write>(w: Wide, signed: bool, output: &mut W) -> io::Result<()> {
-    let mut form = [85u8; 20];
-    let used = write(&mut form, w, signed).beside();
+fn show_written<W: Write, F>(w: Wide, write: F, output: &mut W) -> io::Result<()>
+where
+    F: Fn(&mut [u8], Wide) -> Result<usize, NoRoom>,
+    requires { F.IsAlwaysCallable write }
+{
+    let mut form = [FRESH; 20];
+    let used = write(&mut form, w).beside();
     show_form(&form, used, output)?;
-    if 0 < used {
-        let mut small = [85u8; 20];
-        let r = write_into(&mut small, used - 1, w, signed);
-        show_small(&small, r, output)?;
-    }
-    Ok(())
+    let mut small = [FRESH; 20];
+    let Some(room) = used.checked_sub(1).and_then(|n| small.get_mut(..n)) else {
+        return Ok(());
+    };
+    let r = write(room, w);
+    let answer = format_args!("  {} {}{}", r.number(), r.beside(), touched(&small));
+    put(answer, output)
 }
 
-fn show<W: Write>(s: &[u8], r: Read, name: u8, signed: bool, output: &mut W) -> io::Result<()> {
-    if r.number() == 0 {
-        show_read(s, r, name, output)?;
-        show_written(r.value(), signed, output)
-    } else {
-        show_refused(s, r, name, output)
-    }
+// What stands at the front of `s`: an integer of the kind called `name`, or nothing whole.
+fn show<W: Write, F>(
+    name: &str,
+    s: &[u8],
+    r: Result<Got, Short>,
+    write: F,
+    output: &mut W,
+) -> io::Result<()>
+where
+    F: Fn(&mut [u8], Wide) -> Result<usize, NoRoom>,
+    requires { F.IsAlwaysCallable write }
+{
+    let Ok(Got { value: w, used }) = r else {
+        let refusal = format_args!("{name}{}: refused {}", Pairs(s), r.number());
+        return put(refusal, output);
+    };
+    let words = format_args!("{} {} {} {}", w.w0, w.w1, w.w2, w.w3);
+    put(format_args!("{name}{}: {words} {used}", Pairs(s)), output)?;
+    show_written(w, write, output)
 }
 
 // Each string of the input in turn.
 fn show_all<W: Write>(input: &[u8], output: &mut W) -> io::Result<()> {
-    let mut at = 0;
-    while at < input.len() {
-        let size = input[at] as usize;
-        let start = at + 1;
-        if input.len() - start < size {
+    let mut rest = input;
+    while let Some((size, behind)) = rest.split_first() {
+        let Some((s, next)) = behind.split_at_checked(usize::from(*size)) else {
             return Ok(());
-        }
-        let end = start + size;
-        let s = &input[start..end];
-        show(s, variable::read_unsigned(s), b'u', false, output)?;
-        show(s, variable::read_signed(s), b's', true, output)?;
-        at = end;
+        };
+        let unsigned = variable::read_unsigned(s);
+        show("u", s, unsigned, variable::write_unsigned, output)?;
+        let signed = variable::read_signed(s);
+        show("s", s, signed, variable::write_signed, output)?;
+        rest = next;
     }
     Ok(())
 }
 
 fn main(rt: HostRuntime) -> io::Result<()> {
-    let mut input = [0u8; 65536];
+    let mut input = [0; 65536];
     let n = read_full(&mut rt.stdin(), &mut input)?;
     show_all(&input[..n], &mut rt.stdout())
 }

@@ -1,9 +1,10 @@
 -- Laying by each way out of the code: what a position's parts ask where the position reads right and its rows are lent, and what is done for it
 -- when they are done. Assumes nothing.
+use Rattle.std.specs.Prelude.{Option, Some, None, Result, Ok, Err, IsOk}
 use mathlib.Core.Path.{◌≡◌, ◌∙◌, sym, ap, refl, subst}
 use mathlib.Core.Bool.{Bool, true, false, cond}
 use mathlib.Core.List.{List}
-use Prim.Native.Nat.{ℕ, zero, suc, ◌+◌, ◌-◌, ◌*◌, ◌≤◌, ◌<◌}
+use Prim.Native.Nat.{ℕ, ◌+◌, ◌-◌, ◌*◌, ◌≤◌, ◌<◌}
 use native.Mathlib.Omega.{arith}
 use lib.ListN.{length, get_or, take, drop}
 use lib.Seq.{sets}
@@ -12,28 +13,26 @@ use mir.Syntax.{w64}
 use mir.Val.{Fits}
 use Rattle.wide.specs.Members.{key_length}
 use Rattle.wide.proofs.Numbers.{either}
-use Rattle.text.specs.declared.answer.Text.{Text}
-use Rattle.text.specs.declared.answer.Text.TheVariants.{WellFormed, IllFormed}
-use Rattle.text.specs.Check.{text_of}
+use Rattle.std.specs.Prelude.{Ok, Err}
+use Rattle.text.specs.Check.{Text, text_of}
 use Rattle.rows.specs.declared.row.Row.{Row}
 use Rattle.rows.specs.Table.{words_per_row, Own, row_of, words_of, lent, limit}
 use Rattle.rows.specs.Kinds.{kind_key, span_own, holder_own, reference_own, declaration_own, foreign_own, damaged_own, leaf_row}
+use Rattle.format.specs.declared.refused.Refused.{Refused}
 use Rattle.format.specs.declared.refusal.Refusal.{Refusal}
 use Rattle.format.specs.declared.refusal.Refusal.TheVariants as why
 use Rattle.format.specs.declared.head.Count.{Count}
-use Rattle.format.specs.declared.head.Count.TheVariants.{Is, Not}
 use Rattle.format.specs.declared.head.Spelling.{Spelling}
-use Rattle.format.specs.declared.head.Spelling.TheVariants.{At, No}
 use Rattle.format.specs.declared.head.Content.{Content}
 use Rattle.format.specs.declared.head.Content.TheVariants as holds
 use Rattle.format.specs.declared.head.Holder.{Holder}
 use Rattle.format.specs.declared.head.Head.{Head}
-use Rattle.format.specs.declared.head.Head.TheVariants.{Leaf, Hold, Refer, Declare, Foreign, Refuse}
+use Rattle.format.specs.declared.head.Head.TheVariants.{Leaf, Hold, Refer, Declare, Foreign}
 use Rattle.format.specs.declared.head.Children.{Children}
 use Rattle.format.specs.declared.head.Children.TheVariants.{Entries}
 use Rattle.format.specs.Refusal.{refusal_number}
 use Rattle.format.specs.Tree.{leaf, refer, damaged, many, size}
-use Rattle.format.specs.Head.{count_at, spelled, spelling, spelling_of, head_at, key_at}
+use Rattle.format.specs.Head.{spells, refuse, count_at, spelled, spelling, spelling_of, head_at, key_at}
 use Rattle.format.specs.Value.{Reading, right, wrong, Readings, leaf_own, kind_of, child_count, children_of, keyed, child, is_key, in_force, readings, holding, declaring, whole, framed, in_foreign, value}
 use Rattle.format.specs.Layout.{layout}
 use Rattle.format.proofs.Heads as heads
@@ -44,8 +43,8 @@ use Rattle.measure.specs.Inner.{harmed, measured_of, place_and_row, place_in, ro
 use Rattle.measure.proofs.Numbers.{ReadRight, read_right, read_wrong, wrong-number}
 use Rattle.registry.specs.Inner.{walk, Below, first_in, Based, base_of}
 use Rattle.registry.proofs.Walks.{chain_at, entry-based, entry-below}
-use Rattle.leaves.specs.Inner.{Known, ContentInside, LeafTried}
-use Rattle.laying.specs.Inner.{KeyLaid, Damaged, Right, tree_read, trees_read, next_of, Ready, Did, OneTried, ReadyAll, DidAll}
+use Rattle.leaves.specs.Inner.{Known, ContentInside, LeafLaid}
+use Rattle.laying.specs.Inner.{KeyLaid, Damaged, Right, tree_read, trees_read, next_of, Ready, Did, NotLaid, OneLaid, OneTried, ReadyAll, DidAll}
 use Rattle.laying.proofs.Children.{Laying, laying_next, laying_ready, run-many}
 use Rattle.laying.proofs.Steps.{Laid}
 use Rattle.laying.proofs.Steps as steps
@@ -71,51 +70,59 @@ sane_of s (holds.Integer signed place n) at next k h l = record { some = k.some;
 sane_of s (holds.Span kind place n) at next k h l = record { place-low = omega (arith, k.ends); size_low = omega (arith, k.ends) }
 sane_of s (holds.Char codepoint) at next k h l = tt
 
-pub head_sane : (s : List ℕ) (at stop : ℕ) (c : Content) (next : ℕ) → Leaf c next ≡ head_at s at stop → stop ≤ length s → length s ≤ limit → ContentInside s c
+pub head_sane : (s : List ℕ) (at stop : ℕ) (c : Content) (next : ℕ) → Ok (Leaf c next) ≡ head_at s at stop → stop ≤ length s → length s ≤ limit → ContentInside s c
 head_sane s at stop c next head a b =
-    let w = heads.leaf_at s at stop (Leaf c next) head c next refl in
+    let w = heads.leaf_at s at stop (Ok (Leaf c next)) head c next refl in
     sane_of s c at next w.content (omega (arith, w.within)) b
 
 -- ---- keys
 
 -- the text of a key that reads right is not asked again
-key_spelt : (s : List ℕ) (at place n stop : ℕ) → Right (keyed at (spelling s place n stop)) → spelling s place n stop ≡ At place n
+key_spelt : (s : List ℕ) (at place n stop : ℕ) → Right (keyed at (spelling s place n stop)) → spelling s place n stop ≡ Ok (spells place n)
 unfolding Right
 key_spelt s at place n stop g = of (leb n (stop - place)) (text_of (take n (drop place s))) g
   where
-    of : (b : Bool) (x : Text) → Right (keyed at (cond b (spelled place n x) (No why.Short))) → cond b (spelled place n x) (No why.Short) ≡ At place n
-    of true WellFormed k = refl
-    of true (IllFormed o) k = absurd k
+    of : (b : Bool) (x : Text) → Right (keyed at (cond b (spelled place n x) (Err why.Short))) → cond b (spelled place n x) (Err why.Short) ≡ Ok (spells place n)
+    of true (Ok u) k = refl
+    of true (Err i) k = absurd k
     of false x k = absurd k
 
-module _ (s : List ℕ) (at stop : ℕ) (good : Right (keyed at (key_at s at stop))) (c : Count) (count : c ≡ count_at key_length s at stop) where
-  pub key_never : (e : Refusal) → c ≡ Not e → (table : List ℕ) (row : ℕ) (table' : List ℕ) (f : ℕ) → KeyLaid (key_at s at stop) table row table' f
+module _ (s : List ℕ) (at stop : ℕ) (good : Right (keyed at (key_at s at stop))) (c : Result Count Refusal) (count : c ≡ count_at key_length s at stop) where
+  -- it has a length
+  pub key_never : (X : Type 0) (e : Refusal) → c ≡ Err e → X
   unfolding key_at
-  key_never e q table row table' f = never _ (keyed at (key_at s at stop)) e at (ap (λ (x : Count). keyed at (spelling_of s stop x)) (sym count ∙ q)) good
+  key_never X e q = never X (keyed at (key_at s at stop)) e at (ap (λ (x : Result Count Refusal). keyed at (spelling_of s stop x)) (sym count ∙ q)) good
 
-  module _ (n place : ℕ) (q : c ≡ Is n place) where
-    key_is : key_at s at stop ≡ At place n
+  pub key_ok : IsOk c
+  key_ok = of c refl
+    where
+      of : (x : Result Count Refusal) → c ≡ x → IsOk x
+      of (Ok y) e = refl
+      of (Err x) e = key_never _ x e
+
+  module _ (y : Count) (q : c ≡ Ok y) where
+    key_is : key_at s at stop ≡ Ok (spells y.next y.value)
     unfolding key_at
     key_is =
-        let same : key_at s at stop ≡ spelling s place n stop = ap (spelling_of s stop) (sym count ∙ q) in
-        same ∙ key_spelt s at place n stop (subst (λ (x : Spelling). Right (keyed at x)) same good)
+        let same : key_at s at stop ≡ spelling s y.next y.value stop = ap (spelling_of s stop) (sym count ∙ q) in
+        same ∙ key_spelt s at y.next y.value stop (subst (λ (x : Result Spelling Refusal). Right (keyed at x)) same good)
 
-    pub key_done : (table : List ℕ) (row : ℕ) (w : Row) → w ≡ leaf_row (span_own kind_key place n) row → (table' : List ℕ) → table' ≡ sets table (words_per_row * row) (words_of w)
-        → KeyLaid (key_at s at stop) table row table' (place + n)
+    pub key_done : (table : List ℕ) (row : ℕ) (w : Row) → w ≡ leaf_row (span_own kind_key y.next y.value) row → (table' : List ℕ) → table' ≡ sets table (words_per_row * row) (words_of w)
+        → KeyLaid (key_at s at stop) table row table' (y.next + y.value)
     key_done table row w ew table' g =
-        record { place = place; size = n; is = key_is; ends = refl; put = g ∙ ap (λ (x : Row). sets table (words_per_row * row) (words_of x)) ew }
+        record { place = y.next; size = y.value; is = key_is; ends = refl; put = g ∙ ap (λ (x : Row). sets table (words_per_row * row) (words_of x)) ew }
 
     module _ (a : stop ≤ length s) (b : length s ≤ limit) where
-      key_past : place + n ≤ limit
-      key_past = omega (arith, heads.key_within s at stop (key_at s at stop) refl place n key_is)
+      key_past : y.next + y.value ≤ limit
+      key_past = omega (arith, heads.key_within s at stop (key_at s at stop) refl y.next y.value key_is)
 
-      pub key_fits_lem : Fits w64 (place + n)
+      pub key_fits_lem : Fits w64 (y.next + y.value)
       key_fits_lem = omega (arith, key_past)
 
-      pub key_place : place ≤ limit
+      pub key_place : y.next ≤ limit
       key_place = omega (arith, key_past)
 
-      pub key_size : n ≤ limit
+      pub key_size : y.value ≤ limit
       key_size = omega (arith, key_past)
 
 -- ---- a value position
@@ -127,67 +134,68 @@ module _ (d : ℕ) (s : List ℕ) (k at stop : ℕ) (doubt : Bool) (table : List
   pub levels_left : 1 ≤ d
   levels_left = either 1 d (λ (h : 1 ≤ d). h) (λ (h : d < 1). absurd (left (omega arith)))
 
-  never_refused : (X : Type 0) (h : Head) → h ≡ head_at s at stop → (e : Refusal) (p : ℕ) → h ≡ Refuse e p → X
+  never_refused : (X : Type 0) (h : Result Head Refused) → h ≡ head_at s at stop → (e : Refusal) (p : ℕ) → h ≡ refuse e p → X
   never_refused X h head e p q =
       never X (value d s k at stop) e p (clauses.value-left d s k at stop (wrong e p) left (clauses.value_refuse (d - 1) s k at stop h head e p q)) r.good
 
   pub head_known : Known (head_at s at stop)
   head_known = of (head_at s at stop) refl
     where
-      of : (h : Head) → h ≡ head_at s at stop → Known h
-      of (Leaf c n) e = tt
-      of (Hold x n next) e = tt
-      of (Refer n next) e = tt
-      of (Declare n next) e = tt
-      of (Foreign p n) e = tt
-      of (Refuse y p) e = never_refused ⊥ (Refuse y p) e y p refl
+      of : (h : Result Head Refused) → h ≡ head_at s at stop → Known h
+      of (Ok (Leaf c n)) e = tt
+      of (Ok (Hold x n next)) e = tt
+      of (Ok (Refer n next)) e = tt
+      of (Ok (Declare n next)) e = tt
+      of (Ok (Foreign p n)) e = tt
+      of (Err w) e = never_refused ⊥ (refuse w.why w.place) e w.why w.place refl
 
   pub head_there : at < stop
   head_there =
-      either stop at (λ (h : stop ≤ at). never_refused (at < stop) (Refuse why.Short at) (head_missing s at stop h) why.Short at refl) (λ (h : at < stop). h)
+      either stop at (λ (h : stop ≤ at). never_refused (at < stop) (refuse why.Short at) (head_missing s at stop h) why.Short at refl) (λ (h : at < stop). h)
 
-  -- its leaf was tried
-  module _ (table' : List ℕ) (next : ℕ) (t : LeafTried (head_at s at stop) s table row table' next) where
-    pub plain_ready : next ≡ 0 → Ready (value d s k at stop) doubt table' row base k
-    plain_ready e = subst (λ (x : List ℕ). Ready (value d s k at stop) doubt x row base k) (sym (t.kept e)) r
+  -- nothing was laid
+  module _ (table' : List ℕ) (same : table' ≡ table) where
+    pub plain_ready : Ready (value d s k at stop) doubt table' row base k
+    plain_ready = subst (λ (x : List ℕ). Ready (value d s k at stop) doubt x row base k) (sym same) r
 
-    pub plain_not : next ≡ 0 → (table'' : List ℕ) (f : ℕ) → Did (value d s k at stop) table' row (first_in base) k table'' f → Did (value d s k at stop) table row (first_in base) k table'' f
-    plain_not e table'' f u = subst (λ (x : List ℕ). Did (value d s k at stop) x row (first_in base) k table'' f) (t.kept e) u
+    pub plain_not : (table'' : List ℕ) (f : ℕ) → Did (value d s k at stop) table' row (first_in base) k table'' f → Did (value d s k at stop) table row (first_in base) k table'' f
+    plain_not table'' f u = subst (λ (x : List ℕ). Did (value d s k at stop) x row (first_in base) k table'' f) same u
 
-    pub plain-next : stop ≤ length s → length s ≤ limit → (next ≡ 0 → ⊥) → next ≤ limit
-    plain-next a b z = let w = t.laid z in omega (arith, heads.leaf_within s at stop (head_at s at stop) refl w.content next w.is)
+  -- or its leaf
+  module _ (table' : List ℕ) (next : ℕ) (w : LeafLaid (head_at s at stop) s table row table' next) where
+    pub plain-next : stop ≤ length s → length s ≤ limit → next ≤ limit
+    plain-next a b = omega (arith, heads.leaf_within s at stop (head_at s at stop) refl w.content next w.is)
 
-    pub plain_done : stop ≤ length s → length s ≤ limit → (next ≡ 0 → ⊥) → (f : ℕ) → f ≡ place_and_row next (row + 1) → Did (value d s k at stop) table row (first_in base) k table' f
+    pub plain_done : stop ≤ length s → length s ≤ limit → (f : ℕ) → f ≡ place_and_row next (row + 1) → Did (value d s k at stop) table row (first_in base) k table' f
     unfolding layout size
-    plain_done a b z f e =
-        let w = t.laid z in
+    plain_done a b f e =
         steps.one-laid (value d s k at stop) (leaf (leaf_own s w.content)) (leaf_own s w.content) next table row (first_in base) k
         (clauses.value-left d s k at stop _ left (clauses.value-leaf (d - 1) s k at stop (head_at s at stop) refl w.content next w.is))
-        refl refl (plain-next a b z) (steps.ready_past _ doubt table row base k r) table' f (record { put = w.put; past = e })
+        refl refl (plain-next a b) (steps.ready_past _ doubt table row base k r) table' f (record { put = w.put; past = e })
 
   -- a leaf
-  module _ (c : Content) (next : ℕ) (head : Leaf c next ≡ head_at s at stop) (a : stop ≤ length s) (b : length s ≤ limit) where
+  module _ (c : Content) (next : ℕ) (head : Ok (Leaf c next) ≡ head_at s at stop) (a : stop ≤ length s) (b : length s ≤ limit) where
     pub leaf-next : next ≤ limit
-    leaf-next = omega (arith, heads.leaf_within s at stop (Leaf c next) head c next refl)
+    leaf-next = omega (arith, heads.leaf_within s at stop (Ok (Leaf c next)) head c next refl)
 
     pub leaf_done : (q : Row) → q ≡ leaf_row (leaf_own s c) row → (table' : List ℕ) → table' ≡ sets table (words_per_row * row) (words_of q)
         → (f : ℕ) → f ≡ place_and_row next (row + 1) → Did (value d s k at stop) table row (first_in base) k table' f
     unfolding layout size
     leaf_done q eq table' g f p =
         steps.one-laid (value d s k at stop) (leaf (leaf_own s c)) (leaf_own s c) next table row (first_in base) k
-        (clauses.value-left d s k at stop _ left (clauses.value-leaf (d - 1) s k at stop (Leaf c next) head c next refl))
+        (clauses.value-left d s k at stop _ left (clauses.value-leaf (d - 1) s k at stop (Ok (Leaf c next)) head c next refl))
         refl refl leaf-next (steps.ready_past _ doubt table row base k r) table' f (laid-row table row next (leaf_own s c) q table' f eq g p)
 
   -- a reference
-  module _ (n next : ℕ) (head : Refer n next ≡ head_at s at stop) where
+  module _ (n next : ℕ) (head : Ok (Refer n next) ≡ head_at s at stop) where
     refer_force : n < k
     refer_force =
         either k n
-        (λ (g : k ≤ n). never (n < k) (value d s k at stop) why.NoEntry at (clauses.value-left d s k at stop _ left (clauses.value_no_entry (d - 1) s k at stop (Refer n next) head n next refl g)) r.good)
+        (λ (g : k ≤ n). never (n < k) (value d s k at stop) why.NoEntry at (clauses.value-left d s k at stop _ left (clauses.value_no_entry (d - 1) s k at stop (Ok (Refer n next)) head n next refl g)) r.good)
         (λ (g : n < k). g)
 
     refer-is : value d s k at stop ≡ right (refer (reference_own n 0)) next
-    refer-is = clauses.value-left d s k at stop _ left (clauses.value-refer (d - 1) s k at stop (Refer n next) head n next refl refer_force)
+    refer-is = clauses.value-left d s k at stop _ left (clauses.value-refer (d - 1) s k at stop (Ok (Refer n next)) head n next refl refer_force)
 
     pub refer-below : Below table (first_in base) n row
     refer-below = entry-below table (first_in base) k n row r.below refer_force
@@ -196,7 +204,7 @@ module _ (d : ℕ) (s : List ℕ) (k at stop : ℕ) (doubt : Bool) (table : List
     refer-based = entry-based table base k n r.based refer_force
 
     pub refer-few : n ≤ limit
-    refer-few = heads.refer-few s at stop (Refer n next) head n next refl
+    refer-few = heads.refer-few s at stop (Ok (Refer n next)) head n next refl
 
     pub refer-many : n < 4294967296
     refer-many = omega (arith, refer-few)
@@ -216,7 +224,7 @@ module _ (d : ℕ) (s : List ℕ) (k at stop : ℕ) (doubt : Bool) (table : List
 
     module _ (a : stop ≤ length s) (b : length s ≤ limit) where
       pub refer-next : next ≤ limit
-      refer-next = omega (arith, heads.refer_within s at stop (Refer n next) head n next refl)
+      refer-next = omega (arith, heads.refer_within s at stop (Ok (Refer n next)) head n next refl)
 
       pub refer_done : (entry : ℕ) → entry ≡ walk table (first_in base) n → (q : Row) → q ≡ leaf_row (reference_own n entry) row
           → (table' : List ℕ) → table' ≡ sets table (words_per_row * row) (words_of q) → (f : ℕ) → f ≡ place_and_row next (row + 1) → Did (value d s k at stop) table row (first_in base) k table' f
@@ -229,14 +237,28 @@ module _ (d : ℕ) (s : List ℕ) (k at stop : ℕ) (doubt : Bool) (table : List
           (laid-row table row next (reference_own n w) q table' f (eq ∙ ap (λ (x : ℕ). leaf_row (reference_own n x) row) ee) g p)
 
   -- by its head
-  module _ (h : Head) (head : h ≡ head_at s at stop) where
-    pub refuse_never : (e : Refusal) (p : ℕ) → h ≡ Refuse e p → (table' : List ℕ) (f : ℕ) → Did (value d s k at stop) table row (first_in base) k table' f
-    refuse_never e p q table' f = never_refused _ h head e p q
+  module _ (h : Result Head Refused) (head : h ≡ head_at s at stop) where
+    -- it is no refusal
+    pub refuse_never : (X : Type 0) (e : Refusal) (p : ℕ) → h ≡ refuse e p → X
+    refuse_never X e p q = never_refused X h head e p q
+
+    pub head_ok : IsOk h
+    head_ok = of h refl
+      where
+        of : (x : Result Head Refused) → h ≡ x → IsOk x
+        of (Ok g) e = refl
+        of (Err w) e = refuse_never _ w.why w.place e
 
     -- a holder, a declaration, a foreign body: one function each
-    module _ (x : Holder) (n next : ℕ) (e : h ≡ Hold x n next) where
+    module _ (x : Holder) (n next : ℕ) (g : Head) (ok : h ≡ Ok g) (e : g ≡ Hold x n next) where
       hold-is : value d s k at stop ≡ holding (holder_own (kind_of x) n) (readings (value (d - 1) s) (children_of x) s k 0 (child_count x n) next stop)
-      hold-is = clauses.value-left d s k at stop _ left (clauses.value-hold (d - 1) s k at stop h head x n next e)
+      hold-is = clauses.value-left d s k at stop _ left (clauses.value-hold (d - 1) s k at stop h head x n next (ok ∙ ap Ok e))
+
+      pub hold_within : next ≤ stop
+      hold_within = heads.hold_within s at stop h head x n next (ok ∙ ap Ok e)
+
+      pub hold-few : n ≤ limit
+      hold-few = heads.hold-few s at stop h head x n next (ok ∙ ap Ok e)
 
       pub hold_ready : Ready (holding (holder_own (kind_of x) n) (readings (value (d - 1) s) (children_of x) s k 0 (child_count x n) next stop)) doubt table row base k
       hold_ready = steps.ready_as _ _ doubt table row base k hold-is r
@@ -245,9 +267,15 @@ module _ (d : ℕ) (s : List ℕ) (k at stop : ℕ) (doubt : Bool) (table : List
           → Did (value d s k at stop) table row (first_in base) k table' f
       hold_done table' f t = steps.did_as _ _ table row (first_in base) k table' f hold-is t
 
-    module _ (n next : ℕ) (e : h ≡ Declare n next) where
+    module _ (n next : ℕ) (g : Head) (ok : h ≡ Ok g) (e : g ≡ Declare n next) where
       declare-is : value d s k at stop ≡ declaring n (readings (value (d - 1) s) Entries s 0 0 n next stop) (value (d - 1) s) stop
-      declare-is = clauses.value-left d s k at stop _ left (clauses.value-declare (d - 1) s k at stop h head n next e)
+      declare-is = clauses.value-left d s k at stop _ left (clauses.value-declare (d - 1) s k at stop h head n next (ok ∙ ap Ok e))
+
+      pub declare_within : next ≤ stop
+      declare_within = heads.declare_within s at stop h head n next (ok ∙ ap Ok e)
+
+      pub declare-few : n ≤ limit
+      declare-few = heads.declare-few s at stop h head n next (ok ∙ ap Ok e)
 
       pub declare_ready : Ready (declaring n (readings (value (d - 1) s) Entries s 0 0 n next stop) (value (d - 1) s) stop) doubt table row base k
       declare_ready = steps.ready_as _ _ doubt table row base k declare-is r
@@ -256,9 +284,9 @@ module _ (d : ℕ) (s : List ℕ) (k at stop : ℕ) (doubt : Bool) (table : List
           → Did (value d s k at stop) table row (first_in base) k table' f
       declare_done table' f t = steps.did_as _ _ table row (first_in base) k table' f declare-is t
 
-    module _ (p n : ℕ) (e : h ≡ Foreign p n) where
+    module _ (p n : ℕ) (g : Head) (ok : h ≡ Ok g) (e : g ≡ Foreign p n) where
       foreign-is : value d s k at stop ≡ framed p n (whole (p + n) (value (d - 1) s (in_foreign k) p (p + n)))
-      foreign-is = clauses.value-left d s k at stop _ left (clauses.value-foreign (d - 1) s k at stop h head p n e)
+      foreign-is = clauses.value-left d s k at stop _ left (clauses.value-foreign (d - 1) s k at stop h head p n (ok ∙ ap Ok e))
 
       pub foreign_ready : Ready (framed p n (whole (p + n) (value (d - 1) s (in_foreign k) p (p + n)))) doubt table row base k
       foreign_ready = steps.ready_as _ _ doubt table row base k foreign-is r
@@ -268,11 +296,12 @@ module _ (d : ℕ) (s : List ℕ) (k at stop : ℕ) (doubt : Bool) (table : List
       foreign_done table' f t = steps.did_as _ _ table row (first_in base) k table' f foreign-is t
 
 -- what stands there, by the arm of the code
-pub head_is : (s : List ℕ) (at stop : ℕ) (h : Head) → h ≡ head_at s at stop → (x : Head) → h ≡ x → x ≡ head_at s at stop
-head_is s at stop h head x e = sym e ∙ head
+module _ (s : List ℕ) (at stop : ℕ) (h : Result Head Refused) (head : h ≡ head_at s at stop) (g : Head) (ok : h ≡ Ok g) where
+  pub head_is : (x : Head) → g ≡ x → Ok x ≡ head_at s at stop
+  head_is x e = ap Ok (sym e) ∙ sym ok ∙ head
 
-pub foreign-inside : (s : List ℕ) (at stop : ℕ) (h : Head) → h ≡ head_at s at stop → (p n : ℕ) → h ≡ Foreign p n → stop ≤ length s → p + n ≤ length s
-foreign-inside s at stop h head p n e l = omega (arith, heads.foreign_within s at stop h head p n e)
+  pub foreign-inside : (p n : ℕ) → g ≡ Foreign p n → stop ≤ length s → p + n ≤ length s
+  foreign-inside p n e l = omega (arith, heads.foreign_within s at stop h head p n (ok ∙ ap Ok e))
 
 -- the row behind a position's own
 pub under_fits : (P : Reading) (doubt : Bool) (table : List ℕ) (row base k : ℕ) → Ready P doubt table row base k → Fits w64 (row + 1)
@@ -430,24 +459,19 @@ module _ (s : List ℕ) (d k p n : ℕ) (doubt : Bool) (table : List ℕ) (row b
 
 -- ---- a reference whose marker tells its number
 
-pub none_tried : (d : ℕ) (s : List ℕ) (k at stop : ℕ) (table : List ℕ) (row first : ℕ) → OneTried (value d s k at stop) false table row first k table 0
-none_tried d s k at stop table row first = record { kept = λ z. refl; other = λ z. refl; low = omega arith; did = λ z. absurd (z refl) }
-
 module _ (d : ℕ) (s : List ℕ) (k at stop : ℕ) (doubt : Bool) (table : List ℕ) (row base : ℕ) (r : Ready (value d s k at stop) doubt table row base k)
     (l : at < stop) (a : stop ≤ length s) (b : length s ≤ limit) (m : ℕ) (em : m ≡ get_or s at 0) (small : m < 256) (low : 193 ≤ m) (other : m ≡ 255 → ⊥) where
-  pub marked : Refer (m - 193) (at + 1) ≡ head_at s at stop
+  pub marked : Ok (Refer (m - 193) (at + 1)) ≡ head_at s at stop
   marked = head_refer s at stop l a m em low (omega arith)
 
-  pub marked_tried : (table' : List ℕ) (f : ℕ) → Did (value d s k at stop) table row (first_in base) k table' f → OneTried (value d s k at stop) false table row (first_in base) k table' (at + 1)
+  pub marked_laid : (table' : List ℕ) (f : ℕ) → Did (value d s k at stop) table row (first_in base) k table' f → OneLaid (value d s k at stop) table row (first_in base) k table' (at + 1)
   unfolding tree_read size
-  marked_tried table' f u =
+  marked_laid table' f u =
       let m' = steps.ready_past _ doubt table row base k r in
       let g : ℕ = place_and_row (at + 1) (row + 1) in
       record {
-        kept = λ z. absurd (let x : ⊥ = omega arith in x);
-        other = λ z. refl;
         low = omega arith;
-        did = λ z. record {
+        did = record {
           words = u.words;
           place = steps.place-in (at + 1) (row + 1) g (omega arith) refl ∙ sym (refer-ends d s k at stop doubt table row base r (m - 193) (at + 1) marked);
           past = steps.row-in (at + 1) (row + 1) g (omega arith) m' refl ∙ ap (λ (x : ℕ). row + x) (sym (refer-size d s k at stop doubt table row base r (m - 193) (at + 1) marked));
@@ -466,18 +490,15 @@ module _ (d : ℕ) (s : List ℕ) (k i at stop : ℕ) (c : Children) (doubt : Bo
     key_right : Right (keyed at (key_at s at stop))
     key_right = subst Right key_is-child r.good
 
-    key_tried : stop ≤ length s → length s ≤ limit → (table' : List ℕ) (next : ℕ) → KeyLaid (key_at s at stop) table row table' next
-        → OneTried (child c (value d s) s k i at stop) (is_key c i) table row (first_in base) (in_force c k i) table' next
+    key_laid : stop ≤ length s → length s ≤ limit → (table' : List ℕ) (next : ℕ) → KeyLaid (key_at s at stop) table row table' next
+        → OneLaid (child c (value d s) s k i at stop) table row (first_in base) (in_force c k i) table' next
     unfolding layout size
-    key_tried a b table' next w =
-        let after = heads.key_after s at stop (key_at s at stop) refl w.place w.size w.is in
+    key_laid a b table' next w =
         let within = heads.key_within s at stop (key_at s at stop) refl w.place w.size w.is in
         let low : next ≤ limit = omega (arith, w.ends) in
         record {
-          kept = λ z. absurd (let x : ⊥ = omega (arith, w.ends) in x);
-          other = λ z. absurd (let x : ⊥ = omega (arith, w.ends) in x);
           low = low;
-          did = λ z. steps.one-laid (child c (value d s) s k i at stop) (leaf (span_own kind_key w.place w.size)) (span_own kind_key w.place w.size) next table row (first_in base) (in_force c k i)
+          did = steps.one-laid (child c (value d s) s k i at stop) (leaf (span_own kind_key w.place w.size)) (span_own kind_key w.place w.size) next table row (first_in base) (in_force c k i)
               (key_is-child ∙ clauses.keyed_at s at stop (key_at s at stop) refl w.place w.size w.is
               ∙ ap (right (leaf (span_own kind_key w.place w.size))) (sym w.ends))
               refl refl low (steps.ready_past _ doubt table row base (in_force c k i) r) table' (place_and_row next (row + 1)) (record { put = w.put; past = refl });
@@ -491,29 +512,23 @@ module _ (d : ℕ) (s : List ℕ) (k i at stop : ℕ) (c : Children) (doubt : Bo
     value_ready : Ready (value d s (in_force c k i) at stop) doubt table row base (in_force c k i)
     value_ready = steps.ready_as _ _ doubt table row base (in_force c k i) value-is-child r
 
-    leaf_tried : stop ≤ length s → length s ≤ limit → (table' : List ℕ) (next : ℕ) → LeafTried (head_at s at stop) s table row table' next
-        → OneTried (child c (value d s) s k i at stop) (is_key c i) table row (first_in base) (in_force c k i) table' next
-    leaf_tried a b table' next t =
+    leaf-laid : stop ≤ length s → length s ≤ limit → (table' : List ℕ) (next : ℕ) → LeafLaid (head_at s at stop) s table row table' next
+        → OneLaid (child c (value d s) s k i at stop) table row (first_in base) (in_force c k i) table' next
+    leaf-laid a b table' next t =
         record {
-          kept = t.kept;
-          other = λ z. is;
-          low = low-next next refl;
-          did = λ z. steps.did_as _ _ table row (first_in base) (in_force c k i) table' (place_and_row next (row + 1)) value-is-child
-              (plain_done d s (in_force c k i) at stop doubt table row base value_ready table' next t a b z (place_and_row next (row + 1)) refl);
+          low = plain-next d s (in_force c k i) at stop doubt table row base value_ready table' next t a b;
+          did = steps.did_as _ _ table row (first_in base) (in_force c k i) table' (place_and_row next (row + 1)) value-is-child
+              (plain_done d s (in_force c k i) at stop doubt table row base value_ready table' next t a b (place_and_row next (row + 1)) refl);
         }
-      where
-        low-next : (n : ℕ) → n ≡ next → next ≤ limit
-        low-next zero e = omega arith
-        low-next (suc n) e = plain-next d s (in_force c k i) at stop doubt table row base value_ready table' next t a b (λ z. omega arith)
 
   -- by what the code asks of it
   module _ (b : Bool) (eb : b ≡ is_key c i) where
     pub child_key_right : b ≡ true → Right (keyed at (key_at s at stop))
     child_key_right t = key_right (sym eb ∙ t)
 
-    pub child_key_tried : b ≡ true → stop ≤ length s → length s ≤ limit → (table' : List ℕ) (next : ℕ) → KeyLaid (key_at s at stop) table row table' next
-        → OneTried (child c (value d s) s k i at stop) (is_key c i) table row (first_in base) (in_force c k i) table' next
-    child_key_tried t = key_tried (sym eb ∙ t)
+    pub child_key_laid : b ≡ true → stop ≤ length s → length s ≤ limit → (table' : List ℕ) (next : ℕ) → KeyLaid (key_at s at stop) table row table' next
+        → OneLaid (child c (value d s) s k i at stop) table row (first_in base) (in_force c k i) table' next
+    child_key_laid t = key_laid (sym eb ∙ t)
 
     pub child_known : b ≡ false → Known (head_at s at stop)
     child_known t = head_known d s (in_force c k i) at stop doubt table row base (value_ready (sym eb ∙ t))
@@ -522,57 +537,56 @@ module _ (d : ℕ) (s : List ℕ) (k i at stop : ℕ) (c : Children) (doubt : Bo
     child_there t = head_there d s (in_force c k i) at stop doubt table row base (value_ready (sym eb ∙ t))
 
     -- with nothing laid
-    module _ (t : b ≡ false) (table' : List ℕ) (next : ℕ) (none : LeafTried (head_at s at stop) s table row table' next) (z : next ≡ 0) (m : ℕ) (em : m ≡ in_force c k i) where
+    module _ (t : b ≡ false) (table' : List ℕ) (same : table' ≡ table) (m : ℕ) (em : m ≡ in_force c k i) where
       pub child-value : Ready (value d s m at stop) doubt table' row base m
-      child-value = rw (em, none.kept z) (value_ready (sym eb ∙ t))
+      child-value = rw (em, same) (value_ready (sym eb ∙ t))
 
-      pub child-marked : (table'' : List ℕ) (f : ℕ) → OneTried (value d s m at stop) false table' row (first_in base) m table'' f
-          → OneTried (child c (value d s) s k i at stop) (is_key c i) table row (first_in base) (in_force c k i) table'' f
-      child-marked table'' f w' =
-          let w : OneTried (value d s (in_force c k i) at stop) false table row (first_in base) (in_force c k i) table'' f = rw (em, none.kept z) at w' in
+      pub child-marked : (table'' : List ℕ) (o : Option ℕ) → OneTried (value d s m at stop) false table' row (first_in base) m table'' o
+          → OneTried (child c (value d s) s k i at stop) (is_key c i) table row (first_in base) (in_force c k i) table'' o
+      child-marked table'' None w = record { kept = w.kept ∙ same; other = sym eb ∙ t }
+      child-marked table'' (Some f) w' =
+          let w : OneLaid (value d s (in_force c k i) at stop) table row (first_in base) (in_force c k i) table'' f = rw (em, same) at w' in
           record {
-            kept = w.kept;
-            other = λ y. sym eb ∙ t;
             low = w.low;
-            did = λ y. steps.did_as _ _ table row (first_in base) (in_force c k i) table'' (place_and_row f (row + 1)) (value-is-child (sym eb ∙ t)) (w.did y);
+            did = steps.did_as _ _ table row (first_in base) (in_force c k i) table'' (place_and_row f (row + 1)) (value-is-child (sym eb ∙ t)) w.did;
           }
 
-    pub child-leaf_tried : b ≡ false → stop ≤ length s → length s ≤ limit → (table' : List ℕ) (next : ℕ) → LeafTried (head_at s at stop) s table row table' next
-        → OneTried (child c (value d s) s k i at stop) (is_key c i) table row (first_in base) (in_force c k i) table' next
-    child-leaf_tried t = leaf_tried (sym eb ∙ t)
+    pub child-leaf-laid : b ≡ false → stop ≤ length s → length s ≤ limit → (table' : List ℕ) (next : ℕ) → LeafLaid (head_at s at stop) s table row table' next
+        → OneLaid (child c (value d s) s k i at stop) table row (first_in base) (in_force c k i) table' next
+    child-leaf-laid t = leaf-laid (sym eb ∙ t)
 
 -- ---- the loop over children
 
 module _ (d : ℕ) (c : Children) (s : List ℕ) (k stop base : ℕ) (doubt : Bool) (n at₀ row₀ : ℕ) (table₀ : List ℕ) (i at row : ℕ) (table : List ℕ)
-    (l : Laying d c s k stop base doubt n at₀ row₀ table₀ i at row table) (turn : i < n) (table₁ : List ℕ) (next : ℕ)
-    (t : OneTried (child c (value d s) s k i at stop) (is_key c i) table row (first_in base) (in_force c k i) table₁ next) where
+    (l : Laying d c s k stop base doubt n at₀ row₀ table₀ i at row table) (turn : i < n) (table₁ : List ℕ) where
   ready : Ready (child c (value d s) s k i at stop) doubt table row base (in_force c k i)
   ready = laying_ready d c s k stop base doubt n at₀ row₀ table₀ i at row table l turn
 
   -- it was laid
-  pub laying_one : (next ≡ 0 → ⊥) → Laying d c s k stop base doubt n at₀ row₀ table₀ (i + 1) next (row + 1) table₁
-  laying_one z =
+  pub laying_one : (next : ℕ) → OneLaid (child c (value d s) s k i at stop) table row (first_in base) (in_force c k i) table₁ next
+      → Laying d c s k stop base doubt n at₀ row₀ table₀ (i + 1) next (row + 1) table₁
+  laying_one next t =
       let m = steps.ready_past _ doubt table row base (in_force c k i) ready in
-      laying_next d c s k stop base doubt n at₀ row₀ table₀ i at row table l turn table₁ (place_and_row next (row + 1)) (t.did z) next (row + 1)
+      laying_next d c s k stop base doubt n at₀ row₀ table₀ i at row table l turn table₁ (place_and_row next (row + 1)) t.did next (row + 1)
       (sym (steps.place-in next (row + 1) (place_and_row next (row + 1)) t.low refl)) (sym (steps.row-in next (row + 1) (place_and_row next (row + 1)) t.low m refl))
 
   -- or is laid by its head
-  module _ (z : next ≡ 0) (m : ℕ) (em : m ≡ in_force c k i) where
+  module _ (t : NotLaid (is_key c i) table table₁) (m : ℕ) (em : m ≡ in_force c k i) where
     here : Ready (value d s (in_force c k i) at stop) doubt table row base (in_force c k i)
-    here = value_ready d s k i at stop c doubt table row base ready (t.other z)
+    here = value_ready d s k i at stop c doubt table row base ready t.other
 
     pub laying_left : 1 ≤ d
     laying_left = levels_left d s (in_force c k i) at stop doubt table row base here
 
     pub laying_value : Ready (value d s m at stop) doubt table₁ row base m
-    laying_value = rw (em, t.kept z) here
+    laying_value = rw (em, t.kept) here
 
     pub laying_head : (table₂ : List ℕ) (f : ℕ) → Did (value d s m at stop) table₁ row (first_in base) m table₂ f → (at' row' : ℕ) → at' ≡ place_in f → row' ≡ row_in f
         → Laying d c s k stop base doubt n at₀ row₀ table₀ (i + 1) at' row' table₂
     laying_head table₂ f u at' row' ea er =
-        let v : Did (value d s (in_force c k i) at stop) table row (first_in base) (in_force c k i) table₂ f = rw (em, t.kept z) at u in
+        let v : Did (value d s (in_force c k i) at stop) table row (first_in base) (in_force c k i) table₂ f = rw (em, t.kept) at u in
         laying_next d c s k stop base doubt n at₀ row₀ table₀ i at row table l turn table₂ f
-        (steps.did_as _ _ table row (first_in base) (in_force c k i) table₂ f (value-is-child d s k i at stop c doubt table row base ready (t.other z)) v) at' row' ea er
+        (steps.did_as _ _ table row (first_in base) (in_force c k i) table₂ f (value-is-child d s k i at stop c doubt table row base ready t.other) v) at' row' ea er
 
   pub laying_fits : Fits w64 (row + 1)
   laying_fits = under_fits _ doubt table row base (in_force c k i) ready

@@ -1,19 +1,19 @@
 -- Words of the contracts inside: what laying rows asks, and what it does. P is what a position reads as, Q what positions in a row read as;
 -- how they are read plays no part. Definitions only, which no promise to a user cites.
-use Rattle.std.specs.Prelude.{◌≡◌, Bool, true, false, List, ℕ, ◌+◌, ◌*◌, ◌≤◌, ◌<◌}
+use Rattle.std.specs.Prelude.{◌≡◌, Bool, true, false, Option, Some, None, List, ℕ, ◌+◌, ◌*◌, ◌≤◌, ◌<◌, Result, Ok}
 use Rattle.std.proofs.lemmas.List.Edits.{sets}
 use Rattle.rows.specs.Table.{words_per_row, words_of, lent, limit}
 use Rattle.rows.specs.Kinds.{own, leaf_row, kind_key, span_own}
 use Rattle.format.specs.declared.refusal.Refusal.{Refusal}
 use Rattle.format.specs.Refusal.{refusal_number}
 use Rattle.format.specs.declared.head.Spelling.{Spelling}
-use Rattle.format.specs.declared.head.Spelling.TheVariants.{At}
 use Rattle.format.specs.declared.head.Children.{Children}
 use Rattle.format.specs.Tree.{Tree, leaf, Trees, none, size, sizes}
 use Rattle.format.specs.Value.{Reading, right, wrong, Readings, ran, broke, in_force}
 use Rattle.format.specs.Layout.{is_entry, layout, layouts}
 use Rattle.measure.specs.Inner.{harmed, some_harmed, place_and_row, place_in, row_in}
 use Rattle.registry.specs.Inner.{walk, chain, Below, first_in, Based}
+use Rattle.format.specs.Head.{spells}
 
 -- ---- a right reading: its tree, and the place behind it
 
@@ -59,12 +59,19 @@ pub record Did (P : Reading) (table : List ℕ) (row first k : ℕ) (table' : Li
   pub place : place_in f ≡ next_of P
   pub past : row_in f ≡ row + size (tree_read P)
 
--- r is 0, nothing is laid and P is no key; or P takes one row, which stands in the table, and ends at r
-pub record OneTried (P : Reading) (key : Bool) (table : List ℕ) (row first k : ℕ) (table' : List ℕ) (r : ℕ) : Type 0 where
-  pub kept : r ≡ 0 → table' ≡ table
-  pub other : r ≡ 0 → key ≡ false
-  pub low : r ≤ limit
-  pub did : (r ≡ 0 → ⊥) → Did P table row first k table' (place_and_row r (row + 1))
+-- nothing is laid, and it is no key
+pub record NotLaid (key : Bool) (table table' : List ℕ) : Type 0 where
+  pub kept : table' ≡ table
+  pub other : key ≡ false
+
+-- P takes one row, which stands in the table, and ends at `next`
+pub record OneLaid (P : Reading) (table : List ℕ) (row first k : ℕ) (table' : List ℕ) (next : ℕ) : Type 0 where
+  pub low : next ≤ limit
+  pub did : Did P table row first k table' (place_and_row next (row + 1))
+
+abbrev pub OneTried : Reading → Bool → List ℕ → ℕ → ℕ → ℕ → List ℕ → Option ℕ → Type 0
+OneTried P key table row first k table' None = NotLaid key table table'
+OneTried P key table row first k table' (Some next) = OneLaid P table row first k table' next
 
 -- ---- positions in a row, the first of them number i of what holds them, which has k entries in force around it
 
@@ -86,10 +93,10 @@ pub record DidAll (Q : Readings) (c : Children) (table : List ℕ) (row first k 
 
 -- ---- a key laid, whose text is x and ends at r
 
-pub record KeyLaid (x : Spelling) (table : List ℕ) (row : ℕ) (table' : List ℕ) (r : ℕ) : Type 0 where
+pub record KeyLaid (x : Result Spelling Refusal) (table : List ℕ) (row : ℕ) (table' : List ℕ) (r : ℕ) : Type 0 where
   pub place : ℕ
   pub size : ℕ
-  pub is : x ≡ At place size
+  pub is : x ≡ Ok (spells place size)
   pub ends : r ≡ place + size
   pub put : table' ≡ sets table (words_per_row * row) (words_of (leaf_row (span_own kind_key place size) row))
 

@@ -7,7 +7,7 @@ ghost use Rattle.format.specs.Value.{keyed, is_key, in_force, in_foreign, child,
 ghost use Rattle.registry.specs.Inner.{first_in};
 ghost use Rattle.laying.specs.Inner.{Right, Ready, Did, OneTried, KeyLaid, Damaged};
 
-use format::{Children, Content, Count};
+use format::{Children, Content};
 use leaves::leaf_row;
 use measure::told::place_and_row;
 use rows::Row;
@@ -27,7 +27,7 @@ pub fn lay_leaf(
     next: usize,
 ) -> usize
     requires ready { Ready (value levels s.now around at stop) doubt table.old row base around }
-    requires next_value { (Leaf content next ≡ head_at s.now at stop) × (stop ≤ length s.now) × (length s.now ≤ limit) }
+    requires next_value { (Ok (Leaf content next) ≡ head_at s.now at stop) × (stop ≤ length s.now) × (length s.now ≤ limit) }
     ensures { Did (value levels s.now around at stop) table.old row (first_in base) around table.new result }
 {
     rows::lay(table, row, leaf_row(s, row, content));
@@ -49,7 +49,7 @@ pub fn lay_reference(
     next: usize,
 ) -> usize
     requires ready { Ready (value levels s.now around at stop) doubt table.old row base around }
-    requires next_value { (Refer number next ≡ head_at s.now at stop) × (stop ≤ length s.now) × (length s.now ≤ limit) }
+    requires next_value { (Ok (Refer number next) ≡ head_at s.now at stop) × (stop ≤ length s.now) × (length s.now ≤ limit) }
     ensures { Did (value levels s.now around at stop) table.old row (first_in base) around table.new result }
 {
     let entry = registry::entry_in(table, base, number, row);
@@ -85,17 +85,12 @@ fn lay_key(table: &mut [u32], s: &[u8], at: usize, stop: usize, row: usize) -> u
     requires at_le_stop { (at ≤ stop) × (stop ≤ length s.now) × (length s.now ≤ limit) × (row < lent table.old) × (row < limit) }
     ensures { KeyLaid (key_at s.now at stop) table.old row table.new result }
 {
-    let c = heads::length_at(s, at, stop);
-    match c {
-        Count::Is { value, next } => {
-            rows::lay(table, row, Row::key(row, next, value));
-            next + value
-        }
-        Count::Not { why: _ } => 0, // never: it reads right
-    }
+    let c = heads::length_at(s, at, stop).unwrap();
+    rows::lay(table, row, Row::key(row, c.next, c.value));
+    c.next + c.value
 }
 
-// A reference whose marker tells its number: the place behind it; or 0, and nothing is laid.
+// A reference whose marker tells its number: the place behind it; or none, and nothing is laid.
 fn lay_marked(
     table: &mut [u32],
     s: &[u8],
@@ -106,28 +101,28 @@ fn lay_marked(
     base: usize,
     around: usize,
     doubt: bool,
-) -> usize
+) -> Option<usize>
     requires ready { Ready (value levels s.now around at stop) doubt table.old row base around }
     requires at_lt_stop { (at < stop) × (stop ≤ length s.now) × (length s.now ≤ limit) }
     ensures { OneTried (value levels s.now around at stop) false table.old row (first_in base) around table.new result }
 {
     let b = heads::index(s[at]);
     if b < 193 {
-        return 0;
+        return None;
     }
     if b == 255 {
-        return 0;
+        return None;
     }
     let number = b - 193;
     let next = at + 1;
     lay_reference(
         table, s, at, stop, levels, row, base, around, doubt, number, next,
     );
-    next
+    Some(next)
 }
 
-// Child number i of a holder, where it is a key, or a leaf or a reference that its first bytes tell: the place behind it; or 0, and nothing is
-// laid.
+// Child number i of a holder, where it is a key, or a leaf or a reference that its first bytes tell: the place behind it; or none, and nothing
+// is laid.
 pub fn lay_one(
     table: &mut [u32],
     s: &[u8],
@@ -140,18 +135,19 @@ pub fn lay_one(
     doubt: bool,
     children: Children,
     i: usize,
-) -> usize
+) -> Option<usize>
     requires ready { Ready (child children (value levels s.now) s.now around i at stop) doubt table.old row base (in_force children around i) }
     requires at_le_stop { (at ≤ stop) × (stop ≤ length s.now) × (length s.now ≤ limit) }
     ensures { OneTried (child children (value levels s.now) s.now around i at stop) (is_key children i) table.old row (first_in base) (in_force children around i) table.new result }
 {
     if children.is_key(i) {
-        return lay_key(table, s, at, stop, row);
+        return Some(lay_key(table, s, at, stop, row));
     }
-    let next = leaves::lay_plain(table, s, at, stop, row);
-    if next == 0 {
-        let inside = children.in_force(around, i);
-        return lay_marked(table, s, at, stop, levels, row, base, inside, doubt);
+    match leaves::lay_plain(table, s, at, stop, row) {
+        Some(next) => Some(next),
+        None => {
+            let inside = children.in_force(around, i);
+            lay_marked(table, s, at, stop, levels, row, base, inside, doubt)
+        }
     }
-    next
 }

@@ -32,11 +32,10 @@ pub fn lay_value(
     requires stop_in_bounds { (stop ≤ length s.now) × (length s.now ≤ limit) }
     ensures { Did (value levels s.now around at stop) table.old row (first_in base) around table.new result }
 {
-    let next = leaves::lay_plain(table, s, at, stop, row);
-    if next == 0 {
-        return lay_at(table, s, at, stop, levels, row, base, around, doubt);
+    match leaves::lay_plain(table, s, at, stop, row) {
+        Some(next) => place_and_row(next, row + 1),
+        None => lay_at(table, s, at, stop, levels, row, base, around, doubt),
     }
-    place_and_row(next, row + 1)
 }
 
 // A position by its head.
@@ -56,8 +55,7 @@ fn lay_at(
     requires levels_nonzero { (0 < levels) × (stop ≤ length s.now) × (length s.now ≤ limit) }
     ensures { Did (value levels s.now around at stop) table.old row (first_in base) around table.new result }
 {
-    let h = heads::head_at(s, at, stop);
-    match h {
+    match heads::head_at(s, at, stop).unwrap() {
         Head::Leaf { content, next } => lay_leaf(
             table, s, at, stop, levels, row, base, around, doubt, content, next,
         ),
@@ -104,7 +102,6 @@ fn lay_at(
             around,
             doubt,
         ),
-        Head::Refuse { why: _, place: _ } => 0, // never: it reads right
     }
 }
 
@@ -256,24 +253,24 @@ fn lay_children(
     requires at_le_stop { (at ≤ stop) × (stop ≤ length s.now) × (length s.now ≤ limit) }
     ensures { DidAll (readings (value levels s.now) children s.now around 0 n at stop) children table.old row (first_in base) around 0 table.new result }
 {
-    let mut i = 0;
     let mut place = at;
     let mut under = row;
-    while i < n {
-        let next = lay_one(
+    for i in 0..n {
+        let laid = lay_one(
             table, s, place, stop, levels, under, base, around, doubt, children, i,
         );
-        if next == 0 {
-            let inside = children.in_force(around, i);
-            let f = lay_at(table, s, place, stop, levels, under, base, inside, doubt);
-            place = place_in(f);
-            under = row_in(f);
-            i += 1;
-            continue;
+        match laid {
+            Some(next) => {
+                place = next;
+                under += 1;
+            }
+            None => {
+                let inside = children.in_force(around, i);
+                let f = lay_at(table, s, place, stop, levels, under, base, inside, doubt);
+                place = place_in(f);
+                under = row_in(f);
+            }
         }
-        place = next;
-        under += 1;
-        i += 1;
     }
     place_and_row(place, under)
 }

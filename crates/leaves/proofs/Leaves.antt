@@ -1,5 +1,5 @@
 -- A leaf's row says what the leaf does, by each way out; and what a sane content gives. Assumes nothing.
-use mathlib.Core.Path.{◌≡◌, sym, ap, subst, ◌∙◌}
+use mathlib.Core.Path.{◌≡◌, sym, ap, ◌∙◌}
 use mathlib.Core.Bool.{Bool, true, false, cond}
 use mathlib.Core.List.{List}
 use Prim.Native.Nat.{ℕ}
@@ -15,16 +15,6 @@ use Rattle.rows.specs.Kinds.{kind_small, kind_signed, kind_unsigned, constant_ow
 use Rattle.format.specs.declared.head.Content.{Content}
 use Rattle.format.specs.declared.head.Content.TheVariants.{Constant, Small, Integer, Span, Char}
 use Rattle.format.specs.Value.{integer_own, integer_kind, leaf_own}
-use Rattle.leaves.specs.Inner.{BodyInside, SpanInside, ContentInside}
-
--- ---- what is asked
-
-module _ (s : List ℕ) (c : Content) (sane : ContentInside s c) where
-  pub sane_body : (signed : Bool) (place size : ℕ) → c ≡ Integer signed place size → BodyInside s place size
-  sane_body signed place size e = subst (ContentInside s) e sane
-
-  pub sane_part : (kind place size : ℕ) → c ≡ Span kind place size → SpanInside place size
-  sane_part kind place size e = subst (ContentInside s) e sane
 
 -- ---- an integer's kind
 

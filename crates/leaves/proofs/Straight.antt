@@ -1,137 +1,89 @@
 -- A leaf met straight at its bytes: where it ends, and its row laid, by each way out. Assumes nothing.
+use Rattle.std.specs.Prelude.{Result, Ok, Err}
 use mathlib.Core.Path.{◌≡◌, ◌∙◌, sym, ap, refl, subst}
 use mathlib.Core.Bool.{Bool, true, false, cond}
 use mathlib.Core.List.{List}
 use Prim.Native.Nat.{ℕ, ◌+◌, ◌-◌, ◌*◌, ◌%◌, ◌≤◌, ◌<◌}
 use native.Mathlib.Omega.{arith}
 use lib.ListN.{length, get_or, take, drop}
-use mir.Syntax.{w64}
-use mir.Val.{Fits}
 use lib.Seq.{sets}
 use lib.Dec.{leb}
-use borrow.Author.Tests.{le-leb, leb-true, lt-leb}
+use borrow.Author.Tests.{leb-true}
 use Rattle.wide.specs.declared.wide.Wide.{Wide}
 use Rattle.wide.specs.Words.{value_of, wide_of}
 use Rattle.wide.specs.Body.{body_value, size_at}
 use Rattle.wide.specs.Family.{number_of}
 use Rattle.wide.specs.Members.{integer_signed, key_length}
-use Rattle.wide.proofs.Families.{cond_yes, cond_no}
 use Rattle.wide.proofs.Numbers.{either}
-use Rattle.wide.proofs.Ranks.{size_low, size_high}
-use Rattle.text.specs.declared.answer.Text.{Text}
-use Rattle.text.specs.declared.answer.Text.TheVariants.{WellFormed, IllFormed}
-use Rattle.text.specs.Check.{text_of, well_formed}
+use Rattle.text.specs.Check.{Text, text_of, well_formed}
 use Rattle.rows.specs.declared.row.Row.{Row}
-use Rattle.rows.specs.Table.{words_per_row, words_of, limit}
+use Rattle.rows.specs.Table.{limit, words_per_row, words_of}
 use Rattle.rows.specs.Kinds.{kind_small, kind_text, kind_binary, constant_own, span_own, leaf_row}
+use Rattle.format.specs.declared.refused.Refused.{Refused}
 use Rattle.format.specs.declared.head.Count.{Count}
-use Rattle.format.specs.declared.head.Count.TheVariants.{Is, Not}
 use Rattle.format.specs.declared.head.Content.{Content}
 use Rattle.format.specs.declared.head.Content.TheVariants.{Constant, Small, Integer, Span}
 use Rattle.format.specs.declared.head.Head.{Head}
-use Rattle.format.specs.declared.head.Head.TheVariants.{Leaf, Refuse}
+use Rattle.format.specs.declared.head.Head.TheVariants.{Leaf}
 use Rattle.format.specs.declared.refusal.Refusal.{Refusal}
 use Rattle.format.specs.declared.refusal.Refusal.TheVariants as why
 use Rattle.format.specs.declared.head.Spelling.{Spelling}
-use Rattle.format.specs.declared.head.Spelling.TheVariants.{At, No}
-use Rattle.format.specs.Head.{count_at, bodied, spelled, spelling, spelling_of, integer_head, text_head, binary_head, head_at, key_at}
+use Rattle.format.specs.Head.{counts, refuse, count_at, bodied, spelled, spelling, spelling_of, integer_head, text_head, binary_head, head_at, key_at}
+use Rattle.format.proofs.Heads.{CountAt, Counted, counted}
 use Rattle.format.specs.Value.{integer_own, integer_kind, leaf_own}
-use Rattle.format.proofs.Heads.{leaf-after}
 use Rattle.heads.proofs.Counts.{length-one}
 use Rattle.heads.proofs.Positions as positions
-use Rattle.leaves.specs.Inner.{Known, end_of, LeafEnds, LeafAsked, KeyEnds, KeyAsked, LeafLaid, LeafTried}
+use Rattle.leaves.specs.Inner.{Known, end_of, LeafEnds, LeafAsked, KeyEnds, KeyAsked, SpanBehind, LeafLaid}
 use Rattle.leaves.proofs.Leaves.{constant-row, small_row, integer-row, span-row}
-
--- ---- what a body asks
-
-pub body-some : (rank size : ℕ) → rank < 8 → size ≡ size_at rank → 1 ≤ size
-body-some rank size h e = omega (arith, size_low rank h)
-
-pub body-few : (rank size : ℕ) → rank < 8 → size ≡ size_at rank → size ≤ 16
-body-few rank size h e = omega (arith, size_high rank h)
 
 -- ---- what is no refusal
 
 -- what stands at `at`, said otherwise
-pub known_as : (h : Head) (s : List ℕ) (at stop : ℕ) → Known (head_at s at stop) → h ≡ head_at s at stop → Known h
+pub known_as : (h : Result Head Refused) (s : List ℕ) (at stop : ℕ) → Known (head_at s at stop) → h ≡ head_at s at stop → Known h
 known_as h s at stop k e = subst Known (sym e) k
 
 -- its bytes are there
 body_there : (at place size stop : ℕ) (c : Content) → Known (bodied at c place size stop) → size ≤ stop - place
 body_there at place size stop c k = of (leb size (stop - place)) refl k
   where
-    of : (b : Bool) → leb size (stop - place) ≡ b → Known (cond b (Leaf c (place + size)) (Refuse why.Short at)) → size ≤ stop - place
+    of : (b : Bool) → leb size (stop - place) ≡ b → Known (cond b (Ok (Leaf c (place + size))) (refuse why.Short at)) → size ≤ stop - place
     of true e k = leb-true size (stop - place) e
     of false e k = absurd k
 
 module _ (s : List ℕ) (at place size stop : ℕ) (k : Known (text_head at (spelling s place size stop))) where
-  text_there : size ≤ stop - place
-  text_there = of (leb size (stop - place)) refl (text_of (take size (drop place s))) k
-    where
-      of : (b : Bool) → leb size (stop - place) ≡ b → (x : Text) → Known (text_head at (cond b (spelled place size x) (No why.Short))) → size ≤ stop - place
-      of true e x k = leb-true size (stop - place) e
-      of false e x k = absurd k
-
   -- and are text
-  text_known : text_head at (spelling s place size stop) ≡ Leaf (Span kind_text place size) (place + size)
+  text_known : text_head at (spelling s place size stop) ≡ Ok (Leaf (Span kind_text place size) (place + size))
   text_known = of (leb size (stop - place)) (text_of (take size (drop place s))) k
     where
-      of : (b : Bool) (x : Text) → Known (text_head at (cond b (spelled place size x) (No why.Short))) → text_head at (cond b (spelled place size x) (No why.Short)) ≡ Leaf (Span kind_text place size) (place + size)
-      of true WellFormed k = refl
-      of true (IllFormed o) k = absurd k
+      of : (b : Bool) (x : Text) → Known (text_head at (cond b (spelled place size x) (Err why.Short))) → text_head at (cond b (spelled place size x) (Err why.Short)) ≡ Ok (Leaf (Span kind_text place size) (place + size))
+      of true (Ok u) k = refl
+      of true (Err i) k = absurd k
       of false x k = absurd k
-
-  module _ (l : place ≤ stop) (a : stop ≤ length s) (few : length s ≤ limit) where
-    pub text-size : size ≤ limit
-    text-size = omega (arith, text_there)
-
-    pub text-fits : Fits w64 (place + size)
-    text-fits = omega (arith, text_there)
-
-module _ (at place size stop : ℕ) (c : Content) (k : Known (bodied at c place size stop)) (l : place ≤ stop) (n : ℕ) (a : stop ≤ n) (few : n ≤ limit) where
-  pub body-size : size ≤ limit
-  body-size = omega (arith, body_there at place size stop c k)
-
-  pub body-fits : Fits w64 (place + size)
-  body-fits = omega (arith, body_there at place size stop c k)
 
 -- an integer's
 module _ (at stop rank size : ℕ) (signed : Bool) (z : size ≡ size_at rank) (l : at < stop) (k : Known (integer_head at stop rank signed)) where
   integer_there : size ≤ stop - (at + 1)
   integer_there = rw z (body_there at (at + 1) (size_at rank) stop (Integer signed (at + 1) (size_at rank)) k)
 
-  pub integer-inside : (n : ℕ) → stop ≤ n → at + 1 + size ≤ n
-  integer-inside n h = omega (arith, integer_there)
-
-  pub integer-fits : (n : ℕ) → stop ≤ n → n ≤ limit → Fits w64 (at + 1 + size)
-  integer-fits n a h = omega (arith, integer_there)
-
 -- ---- one row
 
--- nothing is laid
-pub kept : (h : Head) (s table : List ℕ) (row : ℕ) → LeafTried h s table row table 0
-kept h s table row = record { kept = λ e. refl; laid = λ n. absurd (n refl) }
-
 -- the row q of the leaf c is laid
-laid : (h : Head) (s table : List ℕ) (row : ℕ) (table' : List ℕ) (next : ℕ) (c : Content) (q : Row) → h ≡ Leaf c next → q ≡ leaf_row (leaf_own s c) row
+laid : (h : Result Head Refused) (s table : List ℕ) (row : ℕ) (table' : List ℕ) (next : ℕ) (c : Content) (q : Row) → h ≡ Ok (Leaf c next) → q ≡ leaf_row (leaf_own s c) row
     → table' ≡ sets table (words_per_row * row) (words_of q) → LeafLaid h s table row table' next
 laid h s table row table' next c q e w f = record { content = c; is = e; put = f ∙ ap (λ (x : Row). sets table (words_per_row * row) (words_of x)) w }
 
 -- the same head, said otherwise
-laid_as : (h h' : Head) (s table : List ℕ) (row : ℕ) (table' : List ℕ) (r : ℕ) → h ≡ h' → LeafLaid h s table row table' r → LeafLaid h' s table row table' r
-laid_as h h' s table row table' r e t = subst (λ (x : Head). LeafLaid x s table row table' r) e t
-
--- what stands at `at` is laid: it ends behind its place, so not at 0
-pub tried : (h : Head) (s : List ℕ) (at stop : ℕ) (table : List ℕ) (row : ℕ) (table' : List ℕ) (r : ℕ) → h ≡ head_at s at stop
-    → LeafLaid h s table row table' r → LeafTried (head_at s at stop) s table row table' r
-tried h s at stop table row table' r e t =
-    record {
-      kept = λ z. absurd (let n : ⊥ = omega (arith, leaf-after s at stop h e t.content r t.is) in n);
-      laid = λ z. laid_as h (head_at s at stop) s table row table' r e t;
-    }
+pub laid_as : (h h' : Result Head Refused) (s table : List ℕ) (row : ℕ) (table' : List ℕ) (r : ℕ) → h ≡ h' → LeafLaid h s table row table' r → LeafLaid h' s table row table' r
+laid_as h h' s table row table' r e t = subst (λ (x : Result Head Refused). LeafLaid x s table row table' r) e t
 
 module _ (s table : List ℕ) (at row : ℕ) (table' : List ℕ) (q : Row) (f : table' ≡ sets table (words_per_row * row) (words_of q)) where
   -- a text, or a binary
+  pub span-laid : (stop kind place size : ℕ) → head_at s at stop ≡ Ok (Leaf (Span kind place size) (place + size)) → q ≡ leaf_row (span_own kind place size) row
+      → LeafLaid (head_at s at stop) s table row table' (place + size)
+  span-laid stop kind place size e r =
+      laid (head_at s at stop) s table row table' (place + size) (Span kind place size) q e (span-row s (Span kind place size) row q kind place size refl r) f
+
+  -- by their own forms
   module _ (place size stop : ℕ) where
     pub text-laid : Known (text_head at (spelling s place size stop)) → q ≡ leaf_row (span_own kind_text place size) row
         → LeafLaid (text_head at (spelling s place size stop)) s table row table' (place + size)
@@ -155,44 +107,42 @@ module _ (s table : List ℕ) (at row : ℕ) (table' : List ℕ) (q : Row) (f : 
       (sym (positions.body_there at (at + 1) size stop (Integer signed (at + 1) size) h))
       (integer-row s (Integer signed (at + 1) size) row q signed (at + 1) size w kind refl v k r) f)
 
-  pub small-laid : (stop m : ℕ) (w : Wide) → Leaf (Small m) (at + 1) ≡ head_at s at stop → w ≡ wide_of (number_of integer_signed.direct m)
+  pub small-laid : (stop m : ℕ) (w : Wide) → Ok (Leaf (Small m) (at + 1)) ≡ head_at s at stop → w ≡ wide_of (number_of integer_signed.direct m)
       → q ≡ leaf_row (integer_own kind_small w) row → LeafLaid (head_at s at stop) s table row table' (at + 1)
   small-laid stop m w e v r =
       laid (head_at s at stop) s table row table' (at + 1) (Small m) q (sym e) (small_row s (Small m) row q m w refl v r) f
 
-  pub constant-laid : (stop kind : ℕ) → Leaf (Constant kind) (at + 1) ≡ head_at s at stop → q ≡ leaf_row (constant_own kind) row
+  pub constant-laid : (stop kind : ℕ) → Ok (Leaf (Constant kind) (at + 1)) ≡ head_at s at stop → q ≡ leaf_row (constant_own kind) row
       → LeafLaid (head_at s at stop) s table row table' (at + 1)
   constant-laid stop kind e r =
       laid (head_at s at stop) s table row table' (at + 1) (Constant kind) q (sym e) (constant-row s (Constant kind) row q kind refl r) f
 
--- ---- where it ends
+-- a text behind its length is laid as the text that it is
+pub spelt-laid : (s : List ℕ) (at stop n next : ℕ) (c : Result Count Refusal) → c ≡ count_at key_length s (at + 1) stop → c ≡ Ok (counts n next)
+    → (table : List ℕ) (row : ℕ) (table' : List ℕ) (r : ℕ) → LeafLaid (text_head at (spelling s next n stop)) s table row table' r
+    → LeafLaid (text_head at (spelling_of s stop (count_at key_length s (at + 1) stop))) s table row table' r
+spelt-laid s at stop n next c e f table row table' r t =
+    laid_as _ _ s table row table' r (ap (λ (x : Result Count Refusal). text_head at (spelling_of s stop x)) (sym f ∙ e)) t
 
-pub not_asked : (h : Head) → LeafAsked h 0
-not_asked h = record { ends = λ n. absurd (n refl) }
+-- ---- where it ends
 
 -- what stands at `at`, said otherwise
 module _ (s : List ℕ) (at stop : ℕ) where
-  pub asked_as : (h : Head) (r : ℕ) → LeafAsked h r → h ≡ head_at s at stop → LeafAsked (head_at s at stop) r
-  asked_as h r t e = subst (λ (x : Head). LeafAsked x r) e t
+  pub asked_as : (h : Result Head Refused) (r : ℕ) → LeafAsked h r → h ≡ head_at s at stop → LeafAsked (head_at s at stop) r
+  asked_as h r t e = subst (λ (x : Result Head Refused). LeafAsked x r) e t
 
-  leaf-asked : (c : Content) (next : ℕ) → Leaf c next ≡ head_at s at stop → LeafAsked (head_at s at stop) next
+  leaf-asked : (c : Content) (next : ℕ) → Ok (Leaf c next) ≡ head_at s at stop → LeafAsked (head_at s at stop) next
   leaf-asked c next e = record { ends = λ n. record { content = c; is = sym e } }
 
 pub text-asked : (s : List ℕ) (at place size stop : ℕ) → size ≤ stop - place → (b : Bool) → b ≡ well_formed (text_of (take (place + size - place) (drop place s))) → b ≡ true
     → LeafAsked (text_head at (spelling s place size stop)) (place + size)
 text-asked s at place size stop h b e t = record { ends = λ n. record { content = Span kind_text place size; is = sym (ap (text_head at) (positions.spelling_well s place size stop b h e t)) } }
 
-pub end_none : (place size stop : ℕ) → stop - place < size → 0 ≡ end_of place size stop
-end_none place size stop h = sym (cond_no (leb size (stop - place)) _ _ (lt-leb size (stop - place) h))
-
-pub end_there : (place size stop : ℕ) → size ≤ stop - place → place + size ≡ end_of place size stop
-end_there place size stop h = sym (cond_yes (leb size (stop - place)) _ _ (le-leb size (stop - place) h))
-
 body-asked : (at place size stop : ℕ) (c : Content) (r : ℕ) → r ≡ end_of place size stop → LeafAsked (bodied at c place size stop) r
 body-asked at place size stop c r e = of (leb size (stop - place)) e
   where
-    of : (b : Bool) → r ≡ cond b (place + size) 0 → LeafAsked (cond b (Leaf c (place + size)) (Refuse why.Short at)) r
-    of true e = record { ends = λ n. record { content = c; is = ap (Leaf c) (sym e) } }
+    of : (b : Bool) → r ≡ cond b (place + size) 0 → LeafAsked (cond b (Ok (Leaf c (place + size))) (refuse why.Short at)) r
+    of true e = record { ends = λ n. record { content = c; is = ap (λ (z : ℕ). Ok (Leaf c z)) (sym e) } }
     of false e = record { ends = λ n. absurd (n e) }
 
 -- ---- by the marker
@@ -205,11 +155,11 @@ module _ (s : List ℕ) (at stop : ℕ) (l : at < stop) (h : stop ≤ length s) 
     pub unsigned_head : 24 ≤ b → b < 32 → integer_head at stop (b - 24) false ≡ head_at s at stop
     unsigned_head low high = positions.head_unsigned s at stop l b _ (g ∙ e) low high refl
 
-    pub constant_head : b < 3 → Leaf (Constant (b + 1)) (at + 1) ≡ head_at s at stop
+    pub constant_head : b < 3 → Ok (Leaf (Constant (b + 1)) (at + 1)) ≡ head_at s at stop
     constant_head low = positions.head_constant s at stop l b (g ∙ e) low
 
-    pub small_head : 32 ≤ b → b < 128 → Leaf (Small m) (at + 1) ≡ head_at s at stop
-    small_head low high = ap (λ (x : ℕ). Leaf (Small x) (at + 1)) e ∙ positions.head_small s at stop l b (g ∙ e) low high
+    pub small_head : 32 ≤ b → b < 128 → Ok (Leaf (Small m) (at + 1)) ≡ head_at s at stop
+    small_head low high = ap (λ (x : ℕ). Ok (Leaf (Small x) (at + 1))) e ∙ positions.head_small s at stop l b (g ∙ e) low high
 
     pub text_head_lem : 128 ≤ b → b < 160 → text_head at (spelling s (at + 1) (b - 127) stop) ≡ head_at s at stop
     text_head_lem low high = positions.head_text s at stop l h b _ (g ∙ e) low high refl
@@ -219,6 +169,27 @@ module _ (s : List ℕ) (at stop : ℕ) (l : at < stop) (h : stop ≤ length s) 
 
     pub binary-head : b ≡ 12 → binary_head at stop (count_at key_length s (at + 1) stop) ≡ head_at s at stop
     binary-head f = positions.head_binary s at stop l h b _ (g ∙ e) f refl
+
+    -- it is no refusal, so it is the text or the binary
+    module _ (k : Known (head_at s at stop)) where
+      pub text_stands : 128 ≤ b → b < 160 → head_at s at stop ≡ Ok (Leaf (Span kind_text (at + 1) (b - 127)) (at + 1 + (b - 127)))
+      text_stands low high =
+          let e : text_head at (spelling s (at + 1) (b - 127) stop) ≡ head_at s at stop = text_head_lem low high in
+          sym e ∙ text_known s at (at + 1) (b - 127) stop (known_as _ s at stop k e)
+
+      pub long-text_stands : b ≡ 8 → SpanBehind (count_at key_length s (at + 1) stop) kind_text (head_at s at stop)
+      long-text_stands f = of (count_at key_length s (at + 1) stop) (known_as _ s at stop k (long-text_head f)) (long-text_head f)
+        where
+          of : (c : Result Count Refusal) → Known (text_head at (spelling_of s stop c)) → text_head at (spelling_of s stop c) ≡ head_at s at stop → SpanBehind c kind_text (head_at s at stop)
+          of (Ok c) k e = sym e ∙ text_known s at c.next c.value stop k
+          of (Err y) k e = absurd k
+
+      pub long-binary_stands : b ≡ 12 → SpanBehind (count_at key_length s (at + 1) stop) kind_binary (head_at s at stop)
+      long-binary_stands f = of (count_at key_length s (at + 1) stop) (known_as _ s at stop k (binary-head f)) (binary-head f)
+        where
+          of : (c : Result Count Refusal) → Known (binary_head at stop c) → binary_head at stop c ≡ head_at s at stop → SpanBehind c kind_binary (head_at s at stop)
+          of (Ok c) k e = sym (positions.body_there at c.next c.value stop (Span kind_binary c.next c.value) (body_there at c.next c.value stop (Span kind_binary c.next c.value) k) ∙ e)
+          of (Err y) k e = absurd k
 
     -- its end was asked
     pub constant-asked : b < 3 → LeafAsked (head_at s at stop) (at + 1)
@@ -237,11 +208,11 @@ module _ (s : List ℕ) (at stop : ℕ) (l : at < stop) (h : stop ≤ length s) 
 
   -- the length is one byte
   module _ (m : ℕ) (e : m ≡ get_or s at 0) (n : ℕ) (c : n ≡ get_or s (at + 1) 0) (few : n ≤ 247) (there : at + 2 ≤ stop) (r : ℕ) where
-    count : count_at key_length s (at + 1) stop ≡ Is n (at + 2)
-    count = let p : at + 1 + 1 ≡ at + 2 = omega arith in sym (length-one s (at + 1) stop n (omega arith) h c (omega arith)) ∙ ap (Is n) p
+    count : count_at key_length s (at + 1) stop ≡ Ok (counts n (at + 2))
+    count = let p : at + 1 + 1 ≡ at + 2 = omega arith in sym (length-one s (at + 1) stop n (omega arith) h c (omega arith)) ∙ ap (λ (z : ℕ). Ok (counts n z)) p
 
     pub short-text-asked : m ≡ 8 → LeafAsked (text_head at (spelling s (at + 2) n stop)) r → LeafAsked (head_at s at stop) r
-    short-text-asked g t = asked_as s at stop _ r t (ap (λ (c : Count). text_head at (spelling_of s stop c)) (sym count) ∙ long-text_head m m e refl g)
+    short-text-asked g t = asked_as s at stop _ r t (ap (λ (c : Result Count Refusal). text_head at (spelling_of s stop c)) (sym count) ∙ long-text_head m m e refl g)
 
     pub short-binary-asked : m ≡ 12 → r ≡ end_of (at + 2) n stop → LeafAsked (head_at s at stop) r
     short-binary-asked g t =
@@ -249,42 +220,29 @@ module _ (s : List ℕ) (at stop : ℕ) (l : at < stop) (h : stop ≤ length s) 
 
 -- ---- a key
 
-pub not_key : (x : Spelling) → KeyAsked x 0
-not_key x = record { ends = λ n. absurd (n refl) }
-
 -- a text that ends there is a key's
-text_key : (at : ℕ) (x : Spelling) (r : ℕ) → LeafEnds (text_head at x) r → KeyEnds x r
-text_key at (At place n) r w = record { place = place; size = n; is = refl; ends = (let e : Leaf (Span kind_text place n) (place + n) ≡ Leaf w.content r = w.is in cc) }
-text_key at (No e) r w = absurd (let q : Refuse e at ≡ Leaf w.content r = w.is in let z : ◌≡◌ {A = ℕ} 0 1 = cc in omega arith)
+text_key : (at : ℕ) (x : Result Spelling Refusal) (r : ℕ) → LeafEnds (text_head at x) r → KeyEnds x r
+text_key at (Ok x) r w = record { place = x.place; size = x.size; is = refl; ends = (let e : Ok (Leaf (Span kind_text x.place x.size) (x.place + x.size)) ≡ Ok (Leaf w.content r) = w.is in cc) }
+text_key at (Err e) r w = absurd (let q : refuse e at ≡ Ok (Leaf w.content r) = w.is in let z : ◌≡◌ {A = ℕ} 0 1 = cc in omega arith)
 
 pub key_asked : (s : List ℕ) (at stop n r : ℕ) → at < stop → stop ≤ length s → n ≡ get_or s at 0 → n ≤ 247
     → LeafAsked (text_head at (spelling s (at + 1) n stop)) r → KeyAsked (key_at s at stop) r
 unfolding key_at
 key_asked s at stop n r l h e few w =
     let is : spelling s (at + 1) n stop ≡ key_at s at stop = ap (spelling_of s stop) (length-one s at stop n l h e (omega arith)) in
-    record { ends = λ z. subst (λ (x : Spelling). KeyEnds x r) is (text_key at (spelling s (at + 1) n stop) r (w.ends z)) }
+    record { ends = λ z. subst (λ (x : Result Spelling Refusal). KeyEnds x r) is (text_key at (spelling s (at + 1) n stop) r (w.ends z)) }
 
 -- ---- behind a length
 
-module _ (s : List ℕ) (at stop : ℕ) (c : Count) (e : c ≡ count_at key_length s (at + 1) stop) where
-  -- what is no refusal has a length
-  module _ (y : Refusal) (f : c ≡ Not y) where
-    pub spelt_never : Known (text_head at (spelling_of s stop (count_at key_length s (at + 1) stop))) → ⊥
-    spelt_never k = subst (λ (x : Count). Known (text_head at (spelling_of s stop x))) (sym e ∙ f) k
+module _ (s : List ℕ) (at stop : ℕ) (c : Result Count Refusal) (e : c ≡ count_at key_length s (at + 1) stop) (r : Count) (f : c ≡ Ok r) where
+  counts_at : CountAt (at + 1) stop r.value r.next
+  counts_at = subst (Counted (at + 1) stop) (sym e ∙ f) (counted key_length s (at + 1) stop)
 
-    pub bodied_never : Known (binary_head at stop (count_at key_length s (at + 1) stop)) → ⊥
-    bodied_never k = subst (λ (x : Count). Known (binary_head at stop x)) (sym e ∙ f) k
+  pub next_low : stop ≤ length s → length s ≤ limit → r.next ≤ limit
+  next_low h l = omega (arith, counts_at.within)
 
-  module _ (n next : ℕ) (f : c ≡ Is n next) where
-    pub spelt_known : Known (text_head at (spelling_of s stop (count_at key_length s (at + 1) stop))) → Known (text_head at (spelling s next n stop))
-    spelt_known k = subst (λ (x : Count). Known (text_head at (spelling_of s stop x))) (sym e ∙ f) k
+  pub count_low : r.value ≤ limit
+  count_low = counts_at.few
 
-    pub bodied_known : Known (binary_head at stop (count_at key_length s (at + 1) stop)) → Known (bodied at (Span kind_binary next n) next n stop)
-    bodied_known k = subst (λ (x : Count). Known (binary_head at stop x)) (sym e ∙ f) k
-
-    module _ (table : List ℕ) (row : ℕ) (table' : List ℕ) (r : ℕ) where
-      pub spelt-laid : LeafLaid (text_head at (spelling s next n stop)) s table row table' r → LeafLaid (text_head at (spelling_of s stop (count_at key_length s (at + 1) stop))) s table row table' r
-      spelt-laid t = laid_as _ _ s table row table' r (ap (λ (x : Count). text_head at (spelling_of s stop x)) (sym f ∙ e)) t
-
-      pub bodied-laid : LeafLaid (bodied at (Span kind_binary next n) next n stop) s table row table' r → LeafLaid (binary_head at stop (count_at key_length s (at + 1) stop)) s table row table' r
-      bodied-laid t = laid_as _ _ s table row table' r (ap (binary_head at stop) (sym f ∙ e)) t
+  pub long_stands : (kind : ℕ) (h : Result Head Refused) → SpanBehind (count_at key_length s (at + 1) stop) kind h → h ≡ Ok (Leaf (Span kind r.next r.value) (r.next + r.value))
+  long_stands kind h k = subst (λ (x : Result Count Refusal). SpanBehind x kind h) (sym e ∙ f) k

@@ -1,5 +1,6 @@
 // Where a leaf or a key ends whose first bytes tell all of it: asked of them with no head between, for speed alone. Every answer is the place
 // behind it, or 0 where it is another, or none.
+// No Option (tried, bar of speed missed): measuring records, passages and references took up to a quarter longer.
 ghost use Rattle.std.specs.Prelude.{◌+◌, ◌≤◌, ◌<◌, ◌≡◌, length, get_or};
 ghost use Rattle.rows.specs.Table.{limit};
 ghost use Rattle.format.specs.Head.{spelling, text_head, head_at, key_at};

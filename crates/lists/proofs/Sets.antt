@@ -1,12 +1,13 @@
 -- Laws of `sets`, the kit's run of stores: vs laid over l from index i on, what would fall behind the end dropped. Beside them the kit has
 -- `length-sets` and `sets-eq` (`sets l i vs ≡ take i l ++ vs ++ drop (i + length vs) l`, where it fits). Assumes nothing.
 use mathlib.Core.Path.{◌≡◌, refl, sym, ap, ◌∙◌}
-use Prim.Native.Nat.{ℕ, zero, suc, ◌+◌, ◌≤◌, ◌<◌}
+use Prim.Native.Nat.{ℕ, zero, suc, ◌+◌, ◌-◌, ◌≤◌, ◌<◌}
 use native.Mathlib.Nat.{add-zero, zero-add}
 use native.Mathlib.Omega.{arith}
 use mathlib.Core.List.{List, [], ◌∷◌, ◌++◌, append-nil, append_assoc}
 use lib.ListN.{length, get_or, set, take, drop, length-set, length-append, drop_of_length-le}
-use lib.Seq.{sets, sets-eq, set_comm, set-set, set_out, get_or-set_same, get_or-set_other, take-set-le, drop-set-lt, drop-set-add, length-take-le, drop_at, take_at}
+use borrow.Rule.Slice.PartMut.{put_mid}
+use lib.Seq.{sets, sets-eq, drop-drop, set_comm, set-set, set_out, get_or-set_same, get_or-set_other, take-set-le, drop-set-lt, drop-set-add, length-take-le, drop_at, take_at}
 
 pub sets_cons : (x : ℕ) (l : List ℕ) (i : ℕ) (vs : List ℕ) → sets (x ∷ l) (suc i) vs ≡ x ∷ sets l i vs
 sets_cons x l i [] = refl
@@ -53,9 +54,9 @@ pub sets_out : (l : List ℕ) (i : ℕ) (vs : List ℕ) → length l ≤ i → s
 sets_out l i [] h = refl
 sets_out l i (v ∷ vs) h = sets_out (set l i v) (suc i) vs (omega (arith, length-set l i v)) ∙ set_out l i v h
 
-pub get_d_sets_before : (l : List ℕ) (i : ℕ) (vs : List ℕ) (j : ℕ) → j < i → get_or (sets l i vs) j 0 ≡ get_or l j 0
-get_d_sets_before l i [] j h = refl
-get_d_sets_before l i (v ∷ vs) j h = get_d_sets_before (set l i v) (suc i) vs j (omega arith) ∙ get_or-set_other l i j v 0 (omega arith)
+pub get_or_sets_before : (l : List ℕ) (i : ℕ) (vs : List ℕ) (j : ℕ) → j < i → get_or (sets l i vs) j 0 ≡ get_or l j 0
+get_or_sets_before l i [] j h = refl
+get_or_sets_before l i (v ∷ vs) j h = get_or_sets_before (set l i v) (suc i) vs j (omega arith) ∙ get_or-set_other l i j v 0 (omega arith)
 
 pub get_or_sets_behind : (l : List ℕ) (i : ℕ) (vs : List ℕ) (j : ℕ) → i + length vs ≤ j → get_or (sets l i vs) j 0 ≡ get_or l j 0
 get_or_sets_behind l i [] j h = refl
@@ -63,7 +64,7 @@ get_or_sets_behind l i (v ∷ vs) j h = get_or_sets_behind (set l i v) (suc i) v
 
 pub get_or_sets_in : (l : List ℕ) (i : ℕ) (vs : List ℕ) (j : ℕ) → i + length vs ≤ length l → j < length vs → get_or (sets l i vs) (i + j) 0 ≡ get_or vs j 0
 get_or_sets_in l i [] j h lt = absurd (omega arith)
-get_or_sets_in l i (v ∷ vs) zero h lt = rw add-zero (get_d_sets_before (set l i v) (suc i) vs i (omega arith) ∙ get_or-set_same l i v 0 (omega arith))
+get_or_sets_in l i (v ∷ vs) zero h lt = rw add-zero (get_or_sets_before (set l i v) (suc i) vs i (omega arith) ∙ get_or-set_same l i v 0 (omega arith))
 get_or_sets_in l i (v ∷ vs) (suc j) h lt =
     let e : i + suc j ≡ suc i + j = omega arith in
     ap (λ (n : ℕ). get_or (sets (set l i v) (suc i) vs) n 0) e
@@ -108,3 +109,10 @@ pub take_sets_at : (l : List ℕ) (i : ℕ) (vs : List ℕ) → i + length vs �
 take_sets_at l i vs h =
     ap (take (i + length vs)) (sets-eq vs l i h)
     ∙ take_at (take i l ++ vs) (drop (i + length vs) l) (i + length vs) (omega (arith, length-append (take i l) vs, length-take-le i l (omega arith)))
+
+-- a part of a list, written whole
+pub sets_part : (l : List ℕ) (i k : ℕ) (vs : List ℕ) → length vs ≡ k → i + k ≤ length l → put_mid i (i + k - i) l vs ≡ sets l i vs
+sets_part l i k vs n h =
+    let e : i + k - i ≡ length vs = omega arith in
+    let q : i + length vs ≤ length l = omega arith in
+    rw (e, sets-eq vs l i q, append_assoc, drop-drop)

@@ -1,12 +1,12 @@
 -- Laws of `zeroed`. Assumes nothing.
 use mathlib.Core.Path.{◌≡◌, refl, sym, ◌∙◌}
 use Prim.Native.Nat.{ℕ, zero, suc, ◌+◌, ◌-◌, ◌≤◌, ◌<◌}
-use native.Mathlib.Nat.{zero-add, sub-zero, zero-sub, suc-sub-suc}
-use native.Mathlib.Numerals.{add-one}
+use native.Mathlib.Nat.{le_refl, zero-add, sub-zero, zero-sub, suc-sub-suc}
 use native.Mathlib.Omega.{arith}
 use mathlib.Core.List.{List, [], ◌∷◌, ◌++◌, append-nil, append_assoc}
-use lib.ListN.{length, get_or, set, take, drop, replicate, length-set, length-take, length-append, length-replicate}
-use lib.Seq.{sets, length-sets, take_all, take-suc-set, append_snoc}
+use lib.ListN.{length, get_or, take, drop, replicate, length-take, length-append, length-replicate, drop_of_length-le}
+use borrow.Rule.Slice.PartMut.{put_mid, mid_of, post_of, mid_len, Post-is}
+use lib.Seq.{sets, length-sets, take_all}
 use Rattle.lists.specs.Zeroed.{zeroed}
 use Rattle.lists.proofs.Sets.{sets_cons, sets_out, sets_whole, take_sets_at}
 
@@ -35,12 +35,14 @@ zeroed_out from l h =
     let e : length l - from ≡ 0 = omega arith in
     rw (e, take_all from l h) (append-nil l)
 
--- one number more
-pub zeroed-set : (l : List ℕ) (i : ℕ) → i < length l → zeroed (i + 1) (set l i 0) ≡ zeroed i l
+-- zeros laid over all that stands from `from` on
+pub zeroed_laid : (from : ℕ) (l ys : List ℕ) → from ≤ length l → ys ≡ replicate (length (mid_of from (length l - from) l)) 0
+    → put_mid from (length l - from) l ys ≡ zeroed from l
 unfolding zeroed
-zeroed-set l i h =
-    let e : length l - i ≡ suc (length l - suc i) = omega arith in
-    rw (add-one, length-set, take-suc-set l i 0 h, e) (append_snoc (take i l) 0 (replicate (length l - suc i) 0))
+zeroed_laid from l ys h e =
+    let n : length (mid_of from (length l - from) l) ≡ length l - from = mid_len from (length l) l (le_refl (length l)) in
+    let r : post_of from (length l - from) l ≡ [] = Post-is from (length l) l h ∙ drop_of_length-le l (le_refl (length l)) in
+    rw (e, n, r, append-nil)
 
 -- the numbers before it stay
 pub take-zeroed : (n from : ℕ) (l : List ℕ) → n ≤ from → take n (zeroed from l) ≡ take n l

@@ -8,9 +8,7 @@ ghost use Rattle.lists.specs.Zeroed.{zeroed};
 pub fn zero_from(table: &mut [u32], from: usize)
     ensures { table.new ≡ zeroed from table.old }
 {
-    let mut i = from;
-    while i < table.len() {
-        table[i] = 0;
-        i += 1;
+    if from < table.len() {
+        table[from..].fill(0);
     }
 }

@@ -1,4 +1,5 @@
 -- What is measured of a value position, a law for each way out of the code. Assumes nothing.
+use Rattle.std.specs.Prelude.{Result, Ok, Err}
 use mathlib.Core.Path.{◌≡◌, refl, sym, ap, ap₂, ◌∙◌}
 use mathlib.Core.Bool.{Bool, true, false, ◌||◌}
 use mathlib.Core.List.{List}
@@ -14,19 +15,19 @@ use Rattle.wide.proofs.Numbers.{either}
 use Rattle.wide.proofs.Ranks.{bool_case}
 use Rattle.rows.specs.Table.{Own, limit}
 use Rattle.rows.specs.Kinds.{holder_own, reference_own}
+use Rattle.format.specs.declared.refused.Refused.{Refused}
 use Rattle.format.specs.declared.refusal.Refusal.{Refusal}
 use Rattle.format.specs.declared.refusal.Refusal.TheVariants as why
 use Rattle.format.specs.declared.head.Spelling.{Spelling}
-use Rattle.format.specs.declared.head.Spelling.TheVariants.{At, No}
 use Rattle.format.specs.declared.head.Content.{Content}
 use Rattle.format.specs.declared.head.Holder.{Holder}
 use Rattle.format.specs.declared.head.Head.{Head}
-use Rattle.format.specs.declared.head.Head.TheVariants.{Leaf, Hold, Refer, Declare, Foreign, Refuse}
+use Rattle.format.specs.declared.head.Head.TheVariants.{Leaf, Hold, Refer, Declare, Foreign}
 use Rattle.format.specs.declared.head.Children.{Children}
 use Rattle.format.specs.declared.head.Children.TheVariants.{Entries}
-use Rattle.format.specs.declared.needed.Needed.TheVariants as needs
+use Rattle.format.specs.declared.unmeasured.Unmeasured.TheVariants as needs
 use Rattle.format.specs.Tree.{Tree, leaf, refer, Trees, size, sizes}
-use Rattle.format.specs.Head.{head_at, key_at}
+use Rattle.format.specs.Head.{refuse, head_at, key_at}
 use Rattle.format.specs.Value.{Reading, right, wrong, Readings, ran, broke, Reader, leaf_own, kind_of, child_count, children_of, keyed, child, is_key, in_force, ahead, follow, readings, holding, closed, declaring, whole, framed, in_foreign, value, document}
 use Rattle.format.specs.Answer.{needed, needed_for}
 use Rattle.format.proofs.Steps as clauses
@@ -130,19 +131,19 @@ framed-wrong p z (wrong x w) e q h = refl
 
 -- ---- keys
 
-module _ (s : List ℕ) (at stop : ℕ) (x : Spelling) (key : x ≡ key_at s at stop) where
-  module _ (place n : ℕ) (e : x ≡ At place n) where
-    pub key_fits_lem : Fits w64 stop → Fits w64 (place + n)
-    key_fits_lem fit = omega (arith, key_within s at stop x key place n e)
+module _ (s : List ℕ) (at stop : ℕ) (x : Result Spelling Refusal) (key : x ≡ key_at s at stop) where
+  module _ (y : Spelling) (e : x ≡ Ok y) where
+    pub key_fits_lem : Fits w64 stop → Fits w64 (y.place + y.size)
+    key_fits_lem fit = omega (arith, key_within s at stop x key y.place y.size e)
 
-    pub key_low : stop ≤ length s → length s ≤ limit → place + n ≤ limit
-    key_low l big = omega (arith, key_within s at stop x key place n e)
+    pub key_low : stop ≤ length s → length s ≤ limit → y.place + y.size ≤ limit
+    key_low l big = omega (arith, key_within s at stop x key y.place y.size e)
 
-    pub key_right : (v : ℕ) → v ≡ told (Right 1 (place + n) false) → v ≡ told (measured_of (keyed at (key_at s at stop)))
+    pub key_right : (v : ℕ) → v ≡ told (Right 1 (y.place + y.size) false) → v ≡ told (measured_of (keyed at (key_at s at stop)))
     unfolding size harmed
-    key_right v f = f ∙ sym (ap (λ (y : Reading). told (measured_of y)) (clauses.keyed_at s at stop x key place n e))
+    key_right v f = f ∙ sym (ap (λ (r : Reading). told (measured_of r)) (clauses.keyed_at s at stop x key y.place y.size e))
 
-  pub key_wrong : (e : Refusal) → x ≡ No e → (v : ℕ) → v ≡ told (Wrong e at) → v ≡ told (measured_of (keyed at (key_at s at stop)))
+  pub key_wrong : (e : Refusal) → x ≡ Err e → (v : ℕ) → v ≡ told (Wrong e at) → v ≡ told (measured_of (keyed at (key_at s at stop)))
   key_wrong e q v f = f ∙ sym (ap (λ (y : Reading). told (measured_of y)) (clauses.keyed_no s at stop x key e q))
 
 -- ---- a value position, by its head h and the levels left d; the number v tells it
@@ -150,61 +151,63 @@ module _ (s : List ℕ) (at stop : ℕ) (x : Spelling) (key : x ≡ key_at s at 
 pub value_deep : (s : List ℕ) (d k at stop v : ℕ) → d ≡ 0 → v ≡ told (Wrong why.Deep at) → v ≡ told (measured_of (value d s k at stop))
 value_deep s d k at stop v z f = f ∙ sym (ap (λ (y : Reading). told (measured_of y)) (clauses.value_deep d s k at stop z))
 
-module _ (s : List ℕ) (d k at stop : ℕ) (h : Head) (head : h ≡ head_at s at stop) (left : d ≡ 0 → ⊥) (v : ℕ) where
+module _ (s : List ℕ) (d k at stop : ℕ) (h : Result Head Refused) (head : h ≡ head_at s at stop) (left : d ≡ 0 → ⊥) (v : ℕ) where
   by : (x : Reading) → value (suc (d - 1)) s k at stop ≡ x → v ≡ told (measured_of x) → v ≡ told (measured_of (value d s k at stop))
   by x e f = f ∙ ap (λ (y : Reading). told (measured_of y)) (sym (clauses.value-left d s k at stop x left e))
 
-  pub value-leaf : (c : Content) (n : ℕ) → h ≡ Leaf c n → v ≡ told (Right 1 n false) → v ≡ told (measured_of (value d s k at stop))
-  unfolding size harmed
-  value-leaf c n e f = by (right (leaf (leaf_own s c)) n) (clauses.value-leaf (d - 1) s k at stop h head c n e) f
-
-  pub value-refer : (i n : ℕ) → h ≡ Refer i n → i < k → v ≡ told (Right 1 n false) → v ≡ told (measured_of (value d s k at stop))
-  unfolding size harmed
-  value-refer i n e l f = by (right (refer (reference_own i 0)) n) (clauses.value-refer (d - 1) s k at stop h head i n e l) f
-
-  pub value_no_entry : (i n : ℕ) → h ≡ Refer i n → k ≤ i → v ≡ told (Wrong why.NoEntry at) → v ≡ told (measured_of (value d s k at stop))
-  value_no_entry i n e l f = by (wrong why.NoEntry at) (clauses.value_no_entry (d - 1) s k at stop h head i n e l) f
-
-  pub value_refuse : (x : Refusal) (p : ℕ) → h ≡ Refuse x p → v ≡ told (Wrong x p) → v ≡ told (measured_of (value d s k at stop))
+  pub value_refuse : (x : Refusal) (p : ℕ) → h ≡ refuse x p → v ≡ told (Wrong x p) → v ≡ told (measured_of (value d s k at stop))
   value_refuse x p e f = by (wrong x p) (clauses.value_refuse (d - 1) s k at stop h head x p e) f
 
-  pub value-hold : (x : Holder) (c n : ℕ) → h ≡ Hold x c n
-      → v ≡ told (measured_of (holding (holder_own (kind_of x) c) (readings (value (d - 1) s) (children_of x) s k 0 (child_count x c) n stop)))
-      → v ≡ told (measured_of (value d s k at stop))
-  value-hold x c n e f = by _ (clauses.value-hold (d - 1) s k at stop h head x c n e) f
+  module _ (g : Head) (ok : h ≡ Ok g) where
+    pub value-leaf : (c : Content) (n : ℕ) → g ≡ Leaf c n → v ≡ told (Right 1 n false) → v ≡ told (measured_of (value d s k at stop))
+    unfolding size harmed
+    value-leaf c n e f = by (right (leaf (leaf_own s c)) n) (clauses.value-leaf (d - 1) s k at stop h head c n (ok ∙ ap Ok e)) f
 
-  pub value-declare : (c n : ℕ) → h ≡ Declare c n → v ≡ told (measured_of (declaring c (readings (value (d - 1) s) Entries s 0 0 c n stop) (value (d - 1) s) stop))
-      → v ≡ told (measured_of (value d s k at stop))
-  value-declare c n e f = by _ (clauses.value-declare (d - 1) s k at stop h head c n e) f
+    pub value-refer : (i n : ℕ) → g ≡ Refer i n → i < k → v ≡ told (Right 1 n false) → v ≡ told (measured_of (value d s k at stop))
+    unfolding size harmed
+    value-refer i n e l f = by (right (refer (reference_own i 0)) n) (clauses.value-refer (d - 1) s k at stop h head i n (ok ∙ ap Ok e) l) f
 
-  pub value-foreign : (p z : ℕ) → h ≡ Foreign p z → v ≡ told (measured_of (framed p z (whole (p + z) (value (d - 1) s (in_foreign k) p (p + z)))))
-      → v ≡ told (measured_of (value d s k at stop))
-  value-foreign p z e f = by _ (clauses.value-foreign (d - 1) s k at stop h head p z e) f
+    pub value_no_entry : (i n : ℕ) → g ≡ Refer i n → k ≤ i → v ≡ told (Wrong why.NoEntry at) → v ≡ told (measured_of (value d s k at stop))
+    value_no_entry i n e l f = by (wrong why.NoEntry at) (clauses.value_no_entry (d - 1) s k at stop h head i n (ok ∙ ap Ok e) l) f
+
+    pub value-hold : (x : Holder) (c n : ℕ) → g ≡ Hold x c n
+        → v ≡ told (measured_of (holding (holder_own (kind_of x) c) (readings (value (d - 1) s) (children_of x) s k 0 (child_count x c) n stop)))
+        → v ≡ told (measured_of (value d s k at stop))
+    value-hold x c n e f = by _ (clauses.value-hold (d - 1) s k at stop h head x c n (ok ∙ ap Ok e)) f
+
+    pub value-declare : (c n : ℕ) → g ≡ Declare c n → v ≡ told (measured_of (declaring c (readings (value (d - 1) s) Entries s 0 0 c n stop) (value (d - 1) s) stop))
+        → v ≡ told (measured_of (value d s k at stop))
+    value-declare c n e f = by _ (clauses.value-declare (d - 1) s k at stop h head c n (ok ∙ ap Ok e)) f
+
+    pub value-foreign : (p z : ℕ) → g ≡ Foreign p z → v ≡ told (measured_of (framed p z (whole (p + z) (value (d - 1) s (in_foreign k) p (p + z)))))
+        → v ≡ told (measured_of (value d s k at stop))
+    value-foreign p z e f = by _ (clauses.value-foreign (d - 1) s k at stop h head p z (ok ∙ ap Ok e)) f
 
 -- ---- where a call starts, and within what
 
-module _ (s : List ℕ) (at stop : ℕ) (h : Head) (head : h ≡ head_at s at stop) where
-  module _ (l : stop ≤ length s) (big : length s ≤ limit) where
-    pub leaf-low : (c : Content) (n : ℕ) → h ≡ Leaf c n → n ≤ limit
-    leaf-low c n e = omega (arith, leaf_within s at stop h head c n e)
+module _ (s : List ℕ) (at stop : ℕ) (h : Result Head Refused) (head : h ≡ head_at s at stop) where
+  pub refuse_low : stop ≤ length s → length s ≤ limit → (w : Refused) → h ≡ Err w → at ≤ stop → w.place ≤ limit
+  refuse_low l big w e a = omega (arith, refuse_place s at stop h head w.why w.place e)
 
-    pub refer-low : (i n : ℕ) → h ≡ Refer i n → n ≤ limit
-    refer-low i n e = omega (arith, refer_within s at stop h head i n e)
+  module _ (g : Head) (ok : h ≡ Ok g) where
+    module _ (l : stop ≤ length s) (big : length s ≤ limit) where
+      pub leaf-low : (c : Content) (n : ℕ) → g ≡ Leaf c n → n ≤ limit
+      leaf-low c n e = omega (arith, leaf_within s at stop h head c n (ok ∙ ap Ok e))
 
-    pub refuse_low : (x : Refusal) (p : ℕ) → h ≡ Refuse x p → at ≤ stop → p ≤ limit
-    refuse_low x p e a = omega (arith, refuse_place s at stop h head x p e)
+      pub refer-low : (i n : ℕ) → g ≡ Refer i n → n ≤ limit
+      refer-low i n e = omega (arith, refer_within s at stop h head i n (ok ∙ ap Ok e))
 
-  pub hold_pos : (x : Holder) (c n : ℕ) → h ≡ Hold x c n → 0 < n
-  hold_pos x c n e = omega (arith, hold-after s at stop h head x c n e)
+    pub hold_pos : (x : Holder) (c n : ℕ) → g ≡ Hold x c n → 0 < n
+    hold_pos x c n e = omega (arith, hold-after s at stop h head x c n (ok ∙ ap Ok e))
 
-  pub declare_pos : (c n : ℕ) → h ≡ Declare c n → 0 < n
-  declare_pos c n e = omega (arith, declare-after s at stop h head c n e)
+    pub declare_pos : (c n : ℕ) → g ≡ Declare c n → 0 < n
+    declare_pos c n e = omega (arith, declare-after s at stop h head c n (ok ∙ ap Ok e))
 
-  pub foreign_pos : (p z : ℕ) → h ≡ Foreign p z → 0 < p
-  foreign_pos p z e = omega (arith, foreign-after s at stop h head p z e)
+    pub foreign_pos : (p z : ℕ) → g ≡ Foreign p z → 0 < p
+    foreign_pos p z e = omega (arith, foreign-after s at stop h head p z (ok ∙ ap Ok e))
 
-  pub foreign-inside : (p z : ℕ) → h ≡ Foreign p z → (l : ℕ) → stop ≤ l → p + z ≤ l
-  foreign-inside p z e l i = omega (arith, foreign_within s at stop h head p z e)
+    pub foreign-inside : (p z : ℕ) → g ≡ Foreign p z → (l : ℕ) → stop ≤ l → p + z ≤ l
+    foreign-inside p z e l i = omega (arith, foreign_within s at stop h head p z (ok ∙ ap Ok e))
 
 -- ---- children, from `at` on; the number f tells them
 
@@ -360,7 +363,7 @@ module _ (R : Reader) (s : List ℕ) (k i at stop : ℕ) (c : Children) (f : ℕ
 pub none-one : (x : Reading) → OneRow x 0
 none-one x = record { one = λ n. absurd (n refl) }
 
-pub none-referred : (h : Head) (around : ℕ) → ReferAsked h around 0
+pub none-referred : (h : Result Head Refused) (around : ℕ) → ReferAsked h around 0
 none-referred h around = record { ends = λ n. absurd (n refl) }
 
 pub referred-one : (s : List ℕ) (at stop around b : ℕ) → at < stop → stop ≤ length s → b ≡ get_or s at 0 → b < 256 → 193 ≤ b → (b ≡ 255 → ⊥) → b - 193 < around
@@ -513,7 +516,7 @@ module _ (s : List ℕ) (d : ℕ) (c : Children) (k count at stop i rows place :
 
 -- ---- what a caller is told by name; the number f tells the document
 
-pub needed_too_long : (s : List ℕ) (depth : ℕ) → limit < length s → needs.TooLong ≡ needed depth s
+pub needed_too_long : (s : List ℕ) (depth : ℕ) → limit < length s → Err needs.TooLong ≡ needed depth s
 unfolding needed
 needed_too_long s depth h = rw (lt-leb (length s) limit h)
 
@@ -522,12 +525,12 @@ module _ (s : List ℕ) (depth f : ℕ) (read : f ≡ told (measured_of (documen
   unfolding needed
   by_name x e = rw (le-leb (length s) limit big, e)
 
-  pub needed-rows : f < 72057594037927936 → (r : ℕ) → r ≡ row_in f → needs.Rows r ≡ needed depth s
+  pub needed-rows : f < 72057594037927936 → (r : ℕ) → r ≡ row_in f → Ok r ≡ needed depth s
   needed-rows h r e =
       let k : ReadRight (document depth s) f = read_right 0 (length s) (document depth s) (document_read depth s) (omega arith) big f read h in
-      ap needs.Rows (e ∙ sym k.rows) ∙ by_name (right k.tree (place_in f)) k.is
+      ap Ok (e ∙ sym k.rows) ∙ by_name (right k.tree (place_in f)) k.is
 
-  pub needed-refused : 72057594037927936 ≤ f → (e : Refusal) (p : ℕ) → e ≡ refusal_of (number_wrong f) → p ≡ place_wrong f → needs.Refused e p ≡ needed depth s
+  pub needed-refused : 72057594037927936 ≤ f → (e : Refusal) (p : ℕ) → e ≡ refusal_of (number_wrong f) → p ≡ place_wrong f → Err (needs.Refused e p) ≡ needed depth s
   needed-refused h e p ee ep =
-      ap₂ needs.Refused ee ep
+      ap₂ (λ (x : Refusal) (y : ℕ). Err (needs.Refused x y)) ee ep
       ∙ by_name (wrong (refusal_of (number_wrong f)) (place_wrong f)) (read_wrong 0 (length s) (document depth s) (document_read depth s) (omega arith) big f read h)

@@ -1,6 +1,7 @@
 -- Words of the contracts inside: what is measured of a reading (its rows, the place behind it and whether a foreign document in it is damaged,
 -- or its refusal), and how one number says it. Definitions only, which no promise to a user cites.
-use Rattle.std.specs.Prelude.{◌≡◌, ℕ, ◌+◌, ◌*◌, ◌%◌, ◌/◌, ◌<◌, Bool, true, false, cond, ◌||◌, leb, eqb}
+use Rattle.std.specs.Prelude.{◌≡◌, ℕ, ◌+◌, ◌*◌, ◌%◌, ◌/◌, ◌<◌, Bool, true, false, cond, ◌||◌, leb, eqb, Result, Ok}
+use Rattle.format.specs.declared.refused.Refused.{Refused}
 use Rattle.format.specs.declared.refusal.Refusal.{Refusal}
 use Rattle.format.specs.declared.refusal.Refusal.TheVariants as why
 use Rattle.format.specs.declared.head.Head.{Head}
@@ -37,13 +38,13 @@ measured_all (ran ts next) = Right (sizes ts) next (some_harmed ts)
 measured_all (broke e place) = Wrong e place
 
 -- the head h refers to entry `number` of those in force, and ends at `next`
-pub record ReferEnds (h : Head) (around next : ℕ) : Type 0 where
+pub record ReferEnds (h : Result Head Refused) (around next : ℕ) : Type 0 where
   pub number : ℕ
-  pub is : h ≡ Refer number next
+  pub is : h ≡ Ok (Refer number next)
   pub low : number < around
 
 -- r is 0, or where the reference ends
-pub record ReferAsked (h : Head) (around r : ℕ) : Type 0 where
+pub record ReferAsked (h : Result Head Refused) (around r : ℕ) : Type 0 where
   pub ends : (r ≡ 0 → ⊥) → ReferEnds h around r
 
 -- r is 0, or where P ends, which is right and takes one row

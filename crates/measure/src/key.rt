@@ -6,16 +6,14 @@ ghost use Rattle.format.specs.Value.{keyed};
 ghost use Rattle.measure.specs.Inner.{measured_of, told};
 
 use crate::told::{right, wrong};
-use format::Spelling;
 
 // A record's key at `at`.
 pub fn measure_key(s: &[u8], at: usize, stop: usize) -> usize
     requires { (at ≤ stop) × (stop ≤ length s.now) × (length s.now ≤ limit) }
     ensures { result ≡ told (measured_of (keyed at (key_at s.now at stop))) }
 {
-    let x = heads::key_at(s, at, stop);
-    match x {
-        Spelling::At { place, size } => right(1, place + size, false),
-        Spelling::No { why } => wrong(why, at),
+    match heads::key_at(s, at, stop) {
+        Ok(x) => right(1, x.place + x.size, false),
+        Err(why) => wrong(why, at),
     }
 }

@@ -12,7 +12,7 @@ mod plain;
 pub mod told;
 mod value;
 
-pub use format::Needed;
+pub use format::Unmeasured;
 use rows::Row;
 use told::WRONG;
 use value::measure_value;
@@ -34,27 +34,25 @@ pub fn measure_document(s: &[u8], depth: usize) -> usize
 }
 
 // The same for a caller who is told by name.
-fn measure_within(data: &[u8], depth: usize) -> Needed
+fn measure_within(data: &[u8], depth: usize) -> Result<usize, Unmeasured>
     requires { depth ≤ depth_limit }
     ensures { result ≡ needed depth «data».now }
 {
     if Row::LIMIT < data.len() {
-        return Needed::TooLong;
+        return Err(Unmeasured::TooLong);
     }
     let f = measure_document(data, depth);
     if f < WRONG {
-        return Needed::Rows {
-            rows: told::row_in(f),
-        };
+        return Ok(told::row_in(f));
     }
-    Needed::Refused {
+    Err(Unmeasured::Refused {
         why: told::why_in(f),
         place: told::wrong_place(f),
-    }
+    })
 }
 
 // Measures a document: the rows that it needs, or what is wrong with it and where.
-pub fn measure(data: &[u8]) -> Needed
+pub fn measure(data: &[u8]) -> Result<usize, Unmeasured>
     ensures { result ≡ needed depth_limit «data».now }
 {
     measure_within(data, format::DEPTH_LIMIT)

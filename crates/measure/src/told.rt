@@ -1,9 +1,10 @@
 // What is measured, in one number: an answer of several would go through memory at every position.
-ghost use Rattle.std.specs.Prelude.{◌≡◌, ◌||◌, ◌≤◌};
+ghost use Rattle.std.specs.Prelude.{◌≡◌, ◌≤◌};
 ghost use Rattle.rows.specs.Table.{limit};
 ghost use Rattle.measure.specs.Inner.{place_and_row, place_in, row_in, is_broken, place_wrong, number_wrong, refusal_of, ended_at, Right, Wrong, told};
 
 use format::Refusal;
+use numbers::Numbered;
 
 // From here on it is a refusal.
 pub const WRONG: usize = 0x100000000000000;
@@ -49,16 +50,6 @@ pub fn is_broken(f: usize) -> bool
     0x1000000000000 <= f
 }
 
-// The same of two readings.
-pub fn either(a: bool, b: bool) -> bool
-    ensures { result ≡ (a || b) }
-{
-    if a {
-        return true;
-    }
-    b
-}
-
 // A refusal.
 pub fn wrong(why: Refusal, place: usize) -> usize
     requires { place ≤ limit }
@@ -75,34 +66,21 @@ pub fn number_in(f: usize) -> u32
 }
 
 // The refusal that has the number n.
+#[tactic(auto, unfolding(crate::specs::Inner::refusal_of))]
 fn refusal_of(n: usize) -> Refusal
     ensures { result ≡ refusal_of n }
 {
-    if n == 2 {
-        return Refusal::Short;
+    match n {
+        2 => Refusal::Short,
+        3 => Refusal::Marker,
+        4 => Refusal::Huge,
+        5 => Refusal::Text,
+        6 => Refusal::Char,
+        7 => Refusal::NoEntry,
+        8 => Refusal::Empty,
+        9 => Refusal::Deep,
+        _ => Refusal::Extra,
     }
-    if n == 3 {
-        return Refusal::Marker;
-    }
-    if n == 4 {
-        return Refusal::Huge;
-    }
-    if n == 5 {
-        return Refusal::Text;
-    }
-    if n == 6 {
-        return Refusal::Char;
-    }
-    if n == 7 {
-        return Refusal::NoEntry;
-    }
-    if n == 8 {
-        return Refusal::Empty;
-    }
-    if n == 9 {
-        return Refusal::Deep;
-    }
-    Refusal::Extra
 }
 
 // The refusal itself.

@@ -8,7 +8,7 @@ ghost use Rattle.measure.specs.Inner.{measured_of, measured_all, told};
 
 use crate::key::measure_key;
 use crate::plain::end_child;
-use crate::told::{WRONG, either, ended, is_broken, place_in, right, row_in, wrong};
+use crate::told::{WRONG, ended, is_broken, place_in, right, row_in, wrong};
 use format::{Children, Head, Holder, Refusal};
 
 // One value position; `levels` are left, its own with them, and `around` entries are in force.
@@ -20,7 +20,10 @@ pub fn measure_value(s: &[u8], at: usize, stop: usize, levels: usize, around: us
     if levels == 0 {
         return wrong(Refusal::Deep, at);
     }
-    let h = heads::head_at(s, at, stop);
+    let h = match heads::head_at(s, at, stop) {
+        Ok(h) => h,
+        Err(e) => return wrong(e.why, e.place),
+    };
     match h {
         Head::Leaf { content: _, next } => right(1, next, false),
         Head::Refer { number, next } => {
@@ -29,7 +32,6 @@ pub fn measure_value(s: &[u8], at: usize, stop: usize, levels: usize, around: us
             }
             wrong(Refusal::NoEntry, at)
         }
-        Head::Refuse { why, place } => wrong(why, place),
         Head::Hold {
             holder,
             count,
@@ -76,7 +78,7 @@ fn measure_declared(s: &[u8], at: usize, stop: usize, levels: usize, count: usiz
     if WRONG <= f {
         return f;
     }
-    let broken = either(is_broken(es), is_broken(f));
+    let broken = is_broken(es) | is_broken(f);
     right(1 + (row_in(es) + row_in(f)), place_in(f), broken)
 }
 
@@ -129,26 +131,23 @@ fn measure_children(
     requires { (at ≤ stop) × (stop ≤ length s.now) × (length s.now ≤ limit) }
     ensures { result ≡ told (measured_all (readings (value levels s.now) children s.now around 0 count at stop)) }
 {
-    let mut i = 0;
     let mut rows = 0;
     let mut place = at;
     let mut broken = false;
-    while i < count {
+    for i in 0..count {
         let next = end_child(s, place, stop, levels, around, children, i);
         if next == 0 {
             let f = measure_child(s, place, stop, levels, around, children, i);
             if WRONG <= f {
                 return f;
             }
-            rows = rows + row_in(f);
+            rows += row_in(f);
             place = place_in(f);
-            broken = either(broken, is_broken(f));
-            i = i + 1;
-            continue;
+            broken |= is_broken(f);
+        } else {
+            rows += 1;
+            place = next;
         }
-        rows = rows + 1;
-        place = next;
-        i = i + 1;
     }
     right(rows, place, broken)
 }

@@ -1,8 +1,7 @@
 -- What C unpacks is what was packed: no bit is lost. So two answers that are packed alike have the same number and the same number beside it. Assumes nothing.
 use mathlib.Core.Path.{◌≡◌, sym, ap, ◌∙◌}
 use Prim.Native.Nat.{ℕ, ◌/◌, ◌%◌, ◌^◌, ◌<◌}
-use Rattle.walker.specs.declared.step.Step.{Step}
-use Rattle.walker.specs.Walk.{step_number, step_standing}
+use Rattle.walker.specs.Walk.{Step, step_number, step_standing}
 use Rattle.packing.specs.Packed.{packed, packed_standing, packed_step}
 use Rattle.packing.specs.Inner.{LowStep}
 use Rattle.packing.proofs.Packs.{packed-number, packed_beside, standing-row, standing_bound}

@@ -1,22 +1,22 @@
 -- How the C library hands an answer over, and what a lent list holds afterwards. Assumes nothing: these are definitions.
-use Rattle.std.specs.Prelude.{ℕ, ◌+◌, ◌*◌, ◌^◌, cond, List, [], ◌∷◌, length, leb}
+use Rattle.std.specs.Prelude.{ℕ, ◌+◌, ◌*◌, ◌^◌, cond, List, [], ◌∷◌, length, leb, Result}
 use Rattle.std.proofs.lemmas.List.Edits.{sets}
-use Rattle.variable.specs.declared.answer.Read.{Read}
-use Rattle.variable.specs.declared.answer.Written.{Written as Coded}
+use Rattle.variable.specs.declared.got.Got.{Got}
+use Rattle.variable.specs.declared.short.Short.{Short}
+use Rattle.variable.specs.declared.no_room.NoRoom.{NoRoom}
 use Rattle.variable.specs.Answer.{read_number, read_value, read_used, coded_number, coded_beside}
+use Rattle.rows.specs.declared.bad_table.BadTable.{BadTable}
 use Rattle.rows.specs.Table.{limit}
-use Rattle.format.specs.declared.answer.Answer.{Answer}
-use Rattle.format.specs.declared.needed.Needed.{Needed}
+use Rattle.format.specs.declared.unfilled.Unfilled.{Unfilled}
+use Rattle.format.specs.declared.unmeasured.Unmeasured.{Unmeasured}
 use Rattle.format.specs.Answer.{answer_number, answer_beside, needed_number, needed_beside}
-use Rattle.checker.specs.declared.checked.Checked.{Checked}
 use Rattle.checker.specs.Checked.{checked_number, checked_beside}
-use Rattle.writer.specs.declared.written.Written.{Written}
+use Rattle.writer.specs.declared.unwritten.Unwritten.{Unwritten}
 use Rattle.writer.specs.Written.{written_number, written_beside}
 use Rattle.walker.specs.declared.standing.Standing.{Standing}
-use Rattle.walker.specs.declared.step.Step.{Step}
 use Rattle.payload.specs.declared.part.Part.{Part}
 use Rattle.resolve.specs.declared.resolved.Resolved.{Resolved}
-use Rattle.walker.specs.Walk.{step_number, step_standing}
+use Rattle.walker.specs.Walk.{Step, step_number, step_standing}
 use Rattle.resolve.specs.Resolve.{resolved_number, resolved_row, resolved_bound, resolved_moves}
 
 -- "A `uint64_t` answer has the paper's number in its top 8 bits and the number beside it in the low 56."
@@ -24,19 +24,19 @@ unfoldable pub packed : ℕ → ℕ → ℕ
 packed number beside = beside + 2 ^ 56 * number
 
 -- measuring, filling, the check, the writer, and writing a variable integer: the paper's number for each answer, and the number beside it
-unfoldable pub packed_needed : Needed → ℕ
+unfoldable pub packed_needed : Result ℕ Unmeasured → ℕ
 packed_needed a = packed (needed_number a) (needed_beside a)
 
-unfoldable pub packed_answer : Answer → ℕ
+unfoldable pub packed_answer : Result ℕ Unfilled → ℕ
 packed_answer a = packed (answer_number a) (answer_beside a)
 
-unfoldable pub packed_checked : Checked → ℕ
+unfoldable pub packed_checked : Result ℕ BadTable → ℕ
 packed_checked c = packed (checked_number c) (checked_beside c)
 
-unfoldable pub packed_written : Written → ℕ
+unfoldable pub packed_written : Result ℕ Unwritten → ℕ
 packed_written w = packed (written_number w) (written_beside w)
 
-unfoldable pub packed_coded : Coded → ℕ
+unfoldable pub packed_coded : Result ℕ NoRoom → ℕ
 packed_coded w = packed (coded_number w) (coded_beside w)
 
 -- "beside: row << 32 | bound"
@@ -59,10 +59,10 @@ unfoldable pub list_after : List ℕ → List ℕ → List ℕ
 list_after words out = cond (leb (length words) (length out)) (sets out 0 words) out
 
 -- "out: row, bound, moves; zeros under a refusal"
-unfoldable pub resolved_words : Resolved → List ℕ
+unfoldable pub resolved_words : Result Resolved BadTable → List ℕ
 resolved_words r = resolved_row r ∷ resolved_bound r ∷ resolved_moves r ∷ []
 
-unfoldable pub packed_resolved : Resolved → List ℕ → ℕ
+unfoldable pub packed_resolved : Result Resolved BadTable → List ℕ → ℕ
 packed_resolved r out = lent_for (resolved_words r) out (packed (resolved_number r) 0)
 
 -- "out: place, size"
@@ -73,8 +73,8 @@ unfoldable pub packed_part : Part → List ℕ → ℕ
 packed_part p out = lent_for (part_words p) out (packed 0 0)
 
 -- "four words", low word first; "beside: bytes used"; "too few bytes: 2, value and bytes used 0"
-unfoldable pub read_words : Read → List ℕ
+unfoldable pub read_words : Result Got Short → List ℕ
 read_words r = (read_value r).w0 ∷ (read_value r).w1 ∷ (read_value r).w2 ∷ (read_value r).w3 ∷ []
 
-unfoldable pub packed_read : Read → List ℕ → ℕ
+unfoldable pub packed_read : Result Got Short → List ℕ → ℕ
 packed_read r out = lent_for (read_words r) out (packed (read_number r) (read_used r))

@@ -1,7 +1,7 @@
 // The library as C sees it, by the names of include/panxidell.h. A slice is a pointer and a length there.
 #![tactic(auto)]
 
-ghost use Rattle.std.specs.Prelude.{◌≡◌, length};
+ghost use Rattle.std.specs.Prelude.{◌≡◌, Err, length};
 ghost use Rattle.wide.specs.Words.{value_of, words};
 ghost use Rattle.wide.specs.Family.{form};
 ghost use Rattle.wide.specs.Members.{signed, unsigned};
@@ -10,13 +10,13 @@ ghost use Rattle.format.specs.Answer.{depth_limit, needed, answer, table_after};
 ghost use Rattle.checker.specs.Checked.{checked};
 ghost use Rattle.writer.specs.Written.{written, output_after};
 ghost use Rattle.walker.specs.Walk.{standing, step_in, step_on, step_along};
-ghost use Rattle.resolve.specs.Resolve.{resolve};
+ghost use Rattle.resolve.specs.Resolve.{resolve, broken};
 ghost use Rattle.payload.specs.Payload.{payload_at};
 ghost use Rattle.packing.specs.Packed.{packed_needed, packed_answer, packed_checked, packed_written, packed_coded, packed_step, within, list_after, resolved_words, packed_resolved, part_words, packed_part, read_words, packed_read};
 
 use resolve::Resolved;
-use rows::Row;
-use walker::{Standing, Step};
+use rows::{BadTable, Row};
+use walker::{Standing, Unmoved};
 use wide::Wide;
 
 // How many rows a document needs.
@@ -24,7 +24,7 @@ use wide::Wide;
 pub extern "C" fn panxidell_measure(data: &[u8]) -> u64
     ensures { result ≡ packed_needed (needed depth_limit «data».now) }
 {
-    packing::needed(measure::measure(data))
+    packing::answer(measure::measure(data))
 }
 
 // Fills a table from a document.
@@ -41,7 +41,7 @@ pub extern "C" fn panxidell_fill(data: &[u8], table: &mut [u32]) -> u64
 pub extern "C" fn panxidell_check(table: &[u32], n: usize, data: &[u8]) -> u64
     ensures { result ≡ packed_checked (checked depth_limit table.now n «data».now) }
 {
-    packing::checked(checker::check(table, n, data))
+    packing::answer(checker::check(table, n, data))
 }
 
 // Writes the document of the first n rows.
@@ -50,13 +50,13 @@ pub extern "C" fn panxidell_write(table: &[u32], n: usize, data: &[u8], out: &mu
     ensures value { result ≡ packed_written (written depth_limit table.now n «data».now (length out.old)) }
     ensures out_after { out.new ≡ output_after depth_limit table.now n «data».now out.old }
 {
-    packing::written(writer::write(table, n, data, out))
+    packing::answer(writer::write(table, n, data, out))
 }
 
 // In: to the first child.
 #[unsafe(no_mangle)]
 pub extern "C" fn panxidell_in(table: &[u32], n: usize, row: usize, bound: usize) -> u64
-    ensures { result ≡ packed_step (within n (step_in table.now n (standing row bound)) Step.BadTable) }
+    ensures { result ≡ packed_step (within n (step_in table.now n (standing row bound)) (Err Unmoved.BadTable)) }
 {
     packing::step(n, walker::step_in(table, n, Standing { row, bound }))
 }
@@ -64,7 +64,7 @@ pub extern "C" fn panxidell_in(table: &[u32], n: usize, row: usize, bound: usize
 // On: to the next child of the same holder.
 #[unsafe(no_mangle)]
 pub extern "C" fn panxidell_on(table: &[u32], n: usize, row: usize, bound: usize) -> u64
-    ensures { result ≡ packed_step (within n (step_on table.now n (standing row bound)) Step.BadTable) }
+    ensures { result ≡ packed_step (within n (step_on table.now n (standing row bound)) (Err Unmoved.BadTable)) }
 {
     packing::step(n, walker::step_on(table, n, Standing { row, bound }))
 }
@@ -72,17 +72,17 @@ pub extern "C" fn panxidell_on(table: &[u32], n: usize, row: usize, bound: usize
 // Along: to the entry of a reference.
 #[unsafe(no_mangle)]
 pub extern "C" fn panxidell_along(table: &[u32], n: usize, row: usize, bound: usize) -> u64
-    ensures { result ≡ packed_step (within n (step_along table.now n (standing row bound)) Step.BadTable) }
+    ensures { result ≡ packed_step (within n (step_along table.now n (standing row bound)) (Err Unmoved.BadTable)) }
 {
     packing::step(n, walker::step_along(table, n, Standing { row, bound }))
 }
 
 // Resolving, of at most as many rows as a row is packed for.
-fn resolve_within(table: &[u32], n: usize, row: usize) -> Resolved
-    ensures { result ≡ within n (resolve table.now n row) Resolved.BadTable }
+fn resolve_within(table: &[u32], n: usize, row: usize) -> Result<Resolved, BadTable>
+    ensures { result ≡ within n (resolve table.now n row) broken }
 {
     if Row::LIMIT < n {
-        return Resolved::BadTable;
+        return Err(BadTable);
     }
     resolve::resolve(table, n, row)
 }
@@ -90,8 +90,8 @@ fn resolve_within(table: &[u32], n: usize, row: usize) -> Resolved
 // Along references and from declarations to their values: row, bound and moves into the lent list.
 #[unsafe(no_mangle)]
 pub extern "C" fn panxidell_resolve(table: &[u32], n: usize, row: usize, out: &mut [u32]) -> u64
-    ensures value { result ≡ packed_resolved (within n (resolve table.now n row) Resolved.BadTable) out.old }
-    ensures out_after { out.new ≡ list_after (resolved_words (within n (resolve table.now n row) Resolved.BadTable)) out.old }
+    ensures value { result ≡ packed_resolved (within n (resolve table.now n row) broken) out.old }
+    ensures out_after { out.new ≡ list_after (resolved_words (within n (resolve table.now n row) broken)) out.old }
 {
     packing::resolved(out, resolve_within(table, n, row))
 }
@@ -135,7 +135,7 @@ pub extern "C" fn panxidell_write_unsigned(
     ensures value { result ≡ packed_coded (written_of (form unsigned (value_of (words w0 w1 w2 w3))) (length out.old)) }
     ensures out_after { out.new ≡ output_of (form unsigned (value_of (words w0 w1 w2 w3))) out.old }
 {
-    packing::coded(variable::write_unsigned(out, Wide { w0, w1, w2, w3 }))
+    packing::answer(variable::write_unsigned(out, Wide { w0, w1, w2, w3 }))
 }
 
 // Four words as a signed variable integer, shortest, at the front of `out`.
@@ -144,5 +144,5 @@ pub extern "C" fn panxidell_write_signed(out: &mut [u8], w0: u32, w1: u32, w2: u
     ensures value { result ≡ packed_coded (written_of (form signed (value_of (words w0 w1 w2 w3))) (length out.old)) }
     ensures out_after { out.new ≡ output_of (form signed (value_of (words w0 w1 w2 w3))) out.old }
 {
-    packing::coded(variable::write_signed(out, Wide { w0, w1, w2, w3 }))
+    packing::answer(variable::write_signed(out, Wide { w0, w1, w2, w3 }))
 }

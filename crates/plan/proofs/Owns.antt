@@ -2,7 +2,7 @@
 use mathlib.Core.Path.{◌≡◌, refl, sym, ap, ◌∙◌, subst}
 use mathlib.Core.Bool.{Bool, true, false}
 use mathlib.Core.List.{List, [], ◌∷◌}
-use Prim.Native.Nat.{ℕ, ◌-◌, ◌/◌, ◌%◌, ◌≤◌}
+use Prim.Native.Nat.{ℕ, ◌-◌, ◌≤◌}
 use native.Mathlib.Omega.{arith}
 use mir.Val.{Fits}
 use mir.Syntax.{w8}
@@ -19,6 +19,7 @@ use Rattle.rules.specs.declared.kind.Kind.TheVariants.{Constant, Small, Signed, 
 use Rattle.rules.specs.Shape.{named}
 use Rattle.rules.proofs.Says.{Names, names}
 use Rattle.encode.specs.Encode.{float_marker, holder_count, head_for}
+use Rattle.plan.specs.declared.form.Form.{Form}
 use Rattle.plan.specs.declared.plan.Plan.{Plan}
 use Rattle.plan.specs.Inner.{Plans, Formed, own_head}
 use Rattle.plan.proofs.Plans.{formed_plan}
@@ -54,21 +55,21 @@ module _ (w : Row) (k : Kind) (e : k ≡ named (own_of w)) where
     unfolding head_for
     whole_head q h = as_head Whole _ q refl h
 
-    module _ (v : Wide) (r : v ≡ words w.w0 w.w1 w.w2 w.w3) (v' : Wide) (r' : v' ≡ words w.w0 w.w1 w.w2 w.w3) (m : ℕ) where
-      plan_of : (signed : Bool) → Formed m signed (value_of v) → Plans p ((m % 256) ∷ bytes_of (m / 256) (value_of v')) → Plans p (form (integer signed) (value_of (words w.w0 w.w1 w.w2 w.w3)))
+    module _ (v : Wide) (r : v ≡ words w.w0 w.w1 w.w2 w.w3) (v' : Wide) (r' : v' ≡ words w.w0 w.w1 w.w2 w.w3) (m : Form) where
+      plan_of : (signed : Bool) → Formed m signed (value_of v) → Plans p (m.lead ∷ bytes_of m.size (value_of v')) → Plans p (form (integer signed) (value_of (words w.w0 w.w1 w.w2 w.w3)))
       plan_of signed f h =
           subst (λ (x : Wide). Plans p (form (integer signed) (value_of x))) r
-          (formed_plan signed (value_of v) m p f (subst (λ (x : Wide). Plans p ((m % 256) ∷ bytes_of (m / 256) (value_of x))) (r' ∙ sym r) h))
+          (formed_plan signed (value_of v) m p f (subst (λ (x : Wide). Plans p (m.lead ∷ bytes_of m.size (value_of x))) (r' ∙ sym r) h))
 
-      pub small_head : k ≡ Small → Formed m true (value_of v) → Plans p ((m % 256) ∷ bytes_of (m / 256) (value_of v')) → Plans p (own_head w size)
+      pub small_head : k ≡ Small → Formed m true (value_of v) → Plans p (m.lead ∷ bytes_of m.size (value_of v')) → Plans p (own_head w size)
       unfolding head_for
       small_head q f h = as_head Small _ q refl (plan_of true f h)
 
-      pub signed_head : k ≡ Signed → Formed m true (value_of v) → Plans p ((m % 256) ∷ bytes_of (m / 256) (value_of v')) → Plans p (own_head w size)
+      pub signed_head : k ≡ Signed → Formed m true (value_of v) → Plans p (m.lead ∷ bytes_of m.size (value_of v')) → Plans p (own_head w size)
       unfolding head_for
       signed_head q f h = as_head Signed _ q refl (plan_of true f h)
 
-      pub unsigned_head : k ≡ Unsigned → Formed m false (value_of v) → Plans p ((m % 256) ∷ bytes_of (m / 256) (value_of v')) → Plans p (own_head w size)
+      pub unsigned_head : k ≡ Unsigned → Formed m false (value_of v) → Plans p (m.lead ∷ bytes_of m.size (value_of v')) → Plans p (own_head w size)
       unfolding head_for
       unsigned_head q f h = as_head Unsigned _ q refl (plan_of false f h)
 

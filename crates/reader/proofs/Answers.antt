@@ -1,4 +1,5 @@
 -- The answer and the table afterwards, by each way out of filling; and that two answers allowed are equal. Assumes nothing.
+use Rattle.std.specs.Prelude.{Result, Ok, Err}
 use mathlib.Core.Path.{◌≡◌, ◌∙◌, sym, ap, ap₂, subst}
 use mathlib.Core.Bool.{Bool, true, false}
 use mathlib.Core.List.{List, []}
@@ -13,8 +14,8 @@ use borrow.Author.Tests.{le-leb, lt-leb}
 use Rattle.lists.specs.Zeroed.{zeroed}
 use Rattle.wide.proofs.Families.{cond_yes, cond_no}
 use Rattle.rows.specs.Table.{words_per_row, lent, limit}
-use Rattle.format.specs.declared.answer.Answer.{Answer}
-use Rattle.format.specs.declared.answer.Answer.TheVariants.{Accepted, TooLong, Refused, Full}
+use Rattle.format.specs.declared.unfilled.Unfilled.{Unfilled}
+use Rattle.format.specs.declared.unfilled.Unfilled.TheVariants.{TooLong, Refused, Full}
 use Rattle.format.specs.declared.refusal.Refusal.{Refusal}
 use Rattle.format.specs.Tree.{size}
 use Rattle.format.specs.Value.{Reading, wrong, document}
@@ -29,7 +30,7 @@ use Rattle.laying.specs.Inner.{Right, tree_read, Ready}
 use Rattle.reader.proofs.Zeros.{front-zeros}
 
 module _ (depth : ℕ) (s table : List ℕ) where
-  pub too_long : limit < length s → TooLong ≡ answer depth s table
+  pub too_long : limit < length s → Err TooLong ≡ answer depth s table
   unfolding answer
   too_long h = sym (cond_no (leb (length s) limit) _ _ (lt-leb (length s) limit h))
 
@@ -52,8 +53,8 @@ module _ (depth : ℕ) (s table : List ℕ) where
       is-wrong : document depth s ≡ wrong (refusal_of (number_wrong f)) (place_wrong f)
       is-wrong = read_wrong 0 (length s) (document depth s) (document_read depth s) (omega arith) few f measured refusal
 
-      pub refused : (r : Refusal) (p : ℕ) → r ≡ refusal_of (number_wrong f) → p ≡ place_wrong f → Refused r p ≡ answer depth s table
-      refused r p er ep = ap₂ Refused er ep ∙ says _ is-wrong
+      pub refused : (r : Refusal) (p : ℕ) → r ≡ refusal_of (number_wrong f) → p ≡ place_wrong f → Err (Refused r p) ≡ answer depth s table
+      refused r p er ep = ap₂ (λ (x : Refusal) (y : ℕ). Err (Refused x y)) er ep ∙ says _ is-wrong
 
       pub refused-zeros : (table' : List ℕ) → table' ≡ zeroed 0 table → table' ≡ table_after depth s table
       refused-zeros table' e = e ∙ holds _ is-wrong
@@ -71,8 +72,8 @@ module _ (depth : ℕ) (s table : List ℕ) where
         small : leb (size is_right.tree) (lent table) ≡ false
         small = lt-leb (size is_right.tree) (lent table) (omega (arith, count))
 
-        pub full : Full needed ≡ answer depth s table
-        full = ap Full (sym count) ∙ sym (cond_no (leb (size is_right.tree) (lent table)) _ _ small) ∙ says _ is_right.is
+        pub full : Err (Full needed) ≡ answer depth s table
+        full = ap (λ (x : ℕ). Err (Full x)) (sym count) ∙ sym (cond_no (leb (size is_right.tree) (lent table)) _ _ small) ∙ says _ is_right.is
 
         pub full-zeros : (table' : List ℕ) → table' ≡ zeroed 0 table → table' ≡ table_after depth s table
         full-zeros table' e = e ∙ sym (cond_no (leb (size is_right.tree) (lent table)) _ _ small) ∙ holds _ is_right.is
@@ -104,8 +105,8 @@ module _ (depth : ℕ) (s table : List ℕ) where
           pub used_fits : length table < 2 ^ 64 → Fits w64 (words_per_row * used)
           used_fits h = omega (arith, used_is, count)
 
-          pub accepted : Accepted used ≡ answer depth s table
-          accepted = ap Accepted used_is ∙ sym (cond_yes (leb (size is_right.tree) (lent table)) _ _ enough) ∙ says _ is_right.is
+          pub accepted : Ok used ≡ answer depth s table
+          accepted = ap Ok used_is ∙ sym (cond_yes (leb (size is_right.tree) (lent table)) _ _ enough) ∙ says _ is_right.is
 
           pub accepted-rows : (table₁ : List ℕ) → table₁ ≡ sets table 0 (layout (tree_read (document depth s)) 0 [])
               → (table' : List ℕ) → table' ≡ zeroed (words_per_row * used) table₁ → table' ≡ table_after depth s table
@@ -121,10 +122,10 @@ module _ (depth : ℕ) (s table : List ℕ) where
 -- ---- one answer
 
 -- what the promise of fill allows: an answer and a table afterwards
-pub record Allowed (depth : ℕ) (s table : List ℕ) (r : Answer) (after : List ℕ) : Type 0 where
+pub record Allowed (depth : ℕ) (s table : List ℕ) (r : Result ℕ Unfilled) (after : List ℕ) : Type 0 where
   pub says : r ≡ answer depth s table
   pub rows : after ≡ table_after depth s table
 
-pub one_answer : (depth : ℕ) (s table : List ℕ) (r r' : Answer) (after after' : List ℕ) → Allowed depth s table r after → Allowed depth s table r' after'
+pub one_answer : (depth : ℕ) (s table : List ℕ) (r r' : Result ℕ Unfilled) (after after' : List ℕ) → Allowed depth s table r after → Allowed depth s table r' after'
     → (r ≡ r') × (after ≡ after')
 one_answer depth s table r r' after after' p q = (p.says ∙ sym q.says, p.rows ∙ sym q.rows)

@@ -8,7 +8,7 @@ use native.Mathlib.Decide.{dec_lt}
 use mathlib.Core.List.{List, [], ◌∷◌, ◌++◌}
 use lib.ListN.{length, get_or, take, length-append, get_or-append}
 use lib.Dec.{eqb}
-use borrow.Author.Tests.{eq-eqb, eqb-true, ne_eqb}
+use borrow.Author.Tests.{eqb-true}
 use lib.Seq.{sets, get_or_at, take_all}
 use Rattle.rows.specs.declared.row.Row.{Row}
 use Rattle.rows.specs.Table.{words_per_row, row_at, lent}
@@ -24,9 +24,6 @@ walk_start table first = refl
 pub walk-next : (table : List ℕ) (first i at e r : ℕ) → at ≡ walk table first i → e ≡ (row_at table at).end → r ≡ e → r ≡ walk table first (i + 1)
 unfolding walk
 walk-next table first i at e r p q s = s ∙ q ∙ ap (λ (w : ℕ). (row_at table w).end) p ∙ sym (ap (walk table first) (add-one i))
-
-pub walk_done : (table : List ℕ) (first n i at : ℕ) → at ≡ walk table first i → i ≤ n → n ≤ i → at ≡ walk table first n
-walk_done table first n i at p h k = let e : i ≡ n = omega arith in p ∙ ap (walk table first) e
 
 pub walk-lent : (table : List ℕ) (first n row i at : ℕ) → Below table first n row → row ≤ lent table → at ≡ walk table first i → i < n → at < lent table
 unfolding Below
@@ -150,12 +147,6 @@ based_sets table row words base n below b =
     record { small = b.small; even = λ e i l. walk_sets table row words (first_in base) n below i (omega arith) ∙ b.even e i l }
 
 -- the base of entries that stand from `first` to `end`
-pub base_even : (first end count : ℕ) → end - first ≡ count → first + 4294967296 ≡ base_of first end count
-base_even first end count e = sym (ap (λ (b : Bool). cond b (first + 4294967296) first) (eq-eqb (end - first) count e))
-
-pub base_plain : (first end count : ℕ) → (end - first ≡ count → ⊥) → first ≡ base_of first end count
-base_plain first end count e = sym (ap (λ (b : Bool). cond b (first + 4294967296) first) (ne_eqb (end - first) count e))
-
 pub first_base : (first end count : ℕ) → first < 4294967296 → first_in (base_of first end count) ≡ first
 first_base first end count h = of (eqb (end - first) count)
   where

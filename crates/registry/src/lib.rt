@@ -11,10 +11,8 @@ pub fn entry_row(table: &[u32], first: usize, n: usize, row: usize) -> usize
     ensures { result ≡ walk table.now first n }
 {
     let mut at = first;
-    let mut i = 0;
-    while i < n {
+    for _ in 0..n {
         at = rows::number(rows::end_at(table, at));
-        i += 1;
     }
     at
 }

@@ -2,43 +2,33 @@
 #![tactic(auto)]
 
 mod moves;
-mod number;
-mod one_move;
 mod resolved;
 
 ghost use Rattle.std.specs.Prelude.{◌≡◌};
 ghost use Rattle.resolve.specs.Resolve.{resolve};
 
-use one_move::Move;
 pub use resolved::Resolved;
+use rows::BadTable;
 
 // Along references and from declarations to their values, to a row that is neither.
-pub fn resolve(table: &[u32], n: usize, row: usize) -> Resolved
+#[tactic(auto, using(crate::proofs::Moving::chase_one, crate::proofs::Moving::chase_none), unfolding(crate::specs::Resolve::resolve))]
+pub fn resolve(table: &[u32], n: usize, row: usize) -> Result<Resolved, BadTable>
     ensures { result ≡ resolve table.now n row }
 {
     if rows::lent(table) < n {
-        return Resolved::BadTable;
+        return Err(BadTable);
     }
     let mut here = row;
-    let mut moves = 0;
-    while moves < n {
-        match moves::move_at(table, n, here) {
-            Move::Stop => {
-                let bound = rows::number(rows::end_at(table, here));
-                return Resolved::At {
-                    row: here,
-                    bound,
-                    moves,
-                };
-            }
-            Move::To { row: next } => {
-                here = next;
-                moves += 1;
-            }
-            Move::Broken => {
-                return Resolved::BadTable;
-            }
-        }
+    for moves in 0..n {
+        let Some(next) = moves::move_at(table, n, here)? else {
+            let bound = rows::number(rows::end_at(table, here));
+            return Ok(Resolved {
+                row: here,
+                bound,
+                moves,
+            });
+        };
+        here = next;
     }
-    Resolved::BadTable
+    Err(BadTable)
 }

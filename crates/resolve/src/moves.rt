@@ -1,59 +1,62 @@
 // The moves of resolving.
-ghost use Rattle.std.specs.Prelude.{◌≡◌, ◌+◌, ◌≤◌, ◌<◌};
+ghost use Rattle.std.specs.Prelude.{◌≡◌, ◌≤◌, ◌<◌, IfOk};
 ghost use Rattle.rows.specs.Table.{lent};
 ghost use Rattle.resolve.specs.Resolve.{value_row, move_at};
 
-use crate::one_move::Move;
-use rows::Row;
+use rows::{BadTable, Row};
 
 // From a declaration to its value, past `entries` entries, the first of them at `row`.
-fn value_row(table: &[u32], n: usize, end: usize, entries: usize, row: usize) -> Move
+#[tactic(auto, using(crate::proofs::Moving::past_one, crate::proofs::Moving::past_all))]
+fn value_row(
+    table: &[u32],
+    n: usize,
+    end: usize,
+    entries: usize,
+    row: usize,
+) -> Result<usize, BadTable>
     requires { n ≤ lent table.now }
     ensures { result ≡ value_row table.now n end entries row }
 {
     let mut at = row;
-    let mut left = entries;
-    while 0 < left {
+    for _ in 0..entries {
         if n <= at {
-            return Move::Broken;
+            return Err(BadTable);
         }
         let past = rows::number(rows::end_at(table, at));
-        if past <= at {
-            return Move::Broken;
-        }
-        if end < past {
-            return Move::Broken;
+        if past <= at || end < past {
+            return Err(BadTable);
         }
         at = past;
-        left -= 1;
     }
-    if n <= at {
-        return Move::Broken;
+    if n <= at || end <= at {
+        return Err(BadTable);
     }
-    if end <= at {
-        return Move::Broken;
-    }
-    Move::To { row: at }
+    Ok(at)
 }
 
-// The move from a row, if it is a reference or a declaration.
-pub fn move_at(table: &[u32], n: usize, row: usize) -> Move
+// The row that a reference or a declaration moves on to; none from another row.
+#[tactic(auto, unfolding(crate::specs::Resolve::move_at))]
+pub fn move_at(table: &[u32], n: usize, row: usize) -> Result<Option<usize>, BadTable>
     requires { n ≤ lent table.now }
-    ensures { result ≡ move_at table.now n row }
+    ensures value { result ≡ move_at table.now n row }
+    ensures within { IfOk result (λ _. row < n) }
 {
     if n <= row {
-        return Move::Broken;
+        return Err(BadTable);
     }
     let w = rows::row_at(table, row);
-    if w.kind == Row::REFERENCE {
-        let entry = rows::number(w.w1);
-        if entry < row {
-            return Move::To { row: entry };
+    match w.kind {
+        Row::REFERENCE => {
+            let entry = rows::number(w.w1);
+            if row <= entry {
+                return Err(BadTable);
+            }
+            Ok(Some(entry))
         }
-        return Move::Broken;
+        Row::DECLARATION => {
+            let value = value_row(table, n, rows::number(w.end), rows::number(w.w0), row + 1)?;
+            Ok(Some(value))
+        }
+        _ => Ok(None),
     }
-    if w.kind == Row::DECLARATION {
-        return value_row(table, n, rows::number(w.end), rows::number(w.w0), row + 1);
-    }
-    Move::Stop
 }

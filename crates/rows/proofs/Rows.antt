@@ -10,7 +10,7 @@ use borrow.Author.Tests.{lt-ltb, le-ltb}
 use lib.ListN.{length, get_or, drop, replicate, get_or-append}
 use lib.Seq.{sets, length-sets, get_or-drop, set-get_or}
 use Rattle.lists.specs.Zeroed.{zeroed}
-use Rattle.lists.proofs.Sets.{sets_append, sets_comm, sets_join, sets_over, get_d_sets_before, get_or_sets_behind, drop_sets_at}
+use Rattle.lists.proofs.Sets.{sets_append, sets_comm, sets_join, sets_over, get_or_sets_before, get_or_sets_behind, drop_sets_at}
 use Rattle.lists.proofs.Zeros.{length-zeroed, zeroed-front}
 use Rattle.rows.specs.declared.row.Row.{Row}
 use Rattle.rows.specs.Table.{words_per_row, words_of, word_at, row_at, lent, zeros, row_or_zeros}
@@ -93,7 +93,7 @@ row_sets_before table row i vs h =
 
 pub row_sets_behind : (table : List ℕ) (row i : ℕ) (vs : List ℕ) → words_per_row * (row + 1) ≤ i → row_at (sets table i vs) row ≡ row_at table row
 row_sets_behind table row i vs h =
-    row_alike (sets table i vs) row table row (λ n lt. get_d_sets_before table i vs (words_per_row * row + n) (omega arith))
+    row_alike (sets table i vs) row table row (λ n lt. get_or_sets_before table i vs (words_per_row * row + n) (omega arith))
 
 -- ---- a row that is laid
 
@@ -161,6 +161,9 @@ pub row_where_lent : (table : List ℕ) (row l : ℕ) (r : Row) → l ≡ lent t
 unfolding row_or_zeros
 row_where_lent table row l r is h e = e ∙ rw (lt-ltb row (lent table) (omega arith))
 
-pub zeros_where_not : (table : List ℕ) (row l : ℕ) → l ≡ lent table → l ≤ row → zeros ≡ row_or_zeros table row
+pub zeros_where_not : (table : List ℕ) (row l : ℕ) (r : Row) → l ≡ lent table → l ≤ row
+    → (r.kind ≡ 0) × (r.end ≡ 0) × (r.w0 ≡ 0) × (r.w1 ≡ 0) × (r.w2 ≡ 0) × (r.w3 ≡ 0) → r ≡ row_or_zeros table row
 unfolding row_or_zeros
-zeros_where_not table row l is h = rw (le-ltb row (lent table) (omega arith))
+zeros_where_not table row l r is h z =
+    let e : r ≡ zeros = λ i. record { kind = z.0 i; end = z.1 i; w0 = z.2 i; w1 = z.3 i; w2 = z.4 i; w3 = z.5 i } in
+    rw (le-ltb row (lent table) (omega arith)) e

@@ -1,6 +1,7 @@
 // Rows: their kinds, and a lent table of them. Nothing here knows a document.
 #![tactic(auto)]
 
+mod bad_table; // the refusal of a table
 mod row; // the type and its numbers
 mod making; // a row of each kind
 
@@ -8,10 +9,11 @@ ghost use Rattle.std.specs.Prelude.{◌≡◌, ◌*◌, ◌<◌};
 ghost use Rattle.std.proofs.lemmas.List.Edits.{sets};
 ghost use Rattle.rows.specs.Table.{words_per_row, words_of, word_at, row_at, lent, row_or_zeros};
 
+pub use bad_table::BadTable;
 pub use lists::zero_from;
 pub use row::Row;
 
-// A number of a row, to reckon and to index with.
+// A number of a row, to reckon and to index with. `as usize` would not tell its callers the bound.
 pub fn number(w: u32) -> usize
     ensures { (result ≡ w) × (result < 4294967296) }
 {
@@ -25,7 +27,7 @@ pub fn lent(table: &[u32]) -> usize
     table.len() / Row::WORDS
 }
 
-// Every other word of the table stays.
+// Every other word of the table stays. Word by word, as in `row_at`: an array between would not say which number stands where.
 pub fn lay(table: &mut [u32], row: usize, r: Row)
     requires { row < lent table.old }
     ensures { table.new ≡ sets table.old (words_per_row * row) (words_of r) }
@@ -69,17 +71,10 @@ pub fn row_or_zeros(table: &[u32], row: usize) -> Row
     if row < lent(table) {
         return row_at(table, row);
     }
-    Row {
-        kind: 0,
-        end: 0,
-        w0: 0,
-        w1: 0,
-        w2: 0,
-        w3: 0,
-    }
+    Row::default()
 }
 
-// For who needs no more of a row than its kind.
+// For who needs no more of a row than its kind. This and the two below are named in the README, each by the word that it gives.
 pub fn kind_at(table: &[u32], row: usize) -> u32
     requires { row < lent table.now }
     ensures { result ≡ (row_at table.now row).kind }

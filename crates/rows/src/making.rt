@@ -1,4 +1,5 @@
 // A row of each kind. A leaf is told its own row; a holder is told its end, the row behind its children.
+// Makers that differ in the kind alone stay: each is public by its name, and says what that kind's words mean.
 ghost use Rattle.std.specs.Prelude.{◌≡◌, ◌≤◌, ◌<◌, leb};
 ghost use Rattle.rows.specs.Table.{limit, row_of};
 ghost use Rattle.rows.specs.Kinds.{kind_false, kind_true, kind_none, kind_small, kind_signed, kind_unsigned, kind_float, kind_text, kind_binary, kind_key, kind_array, kind_record, kind_map};

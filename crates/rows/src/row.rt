@@ -1,5 +1,5 @@
 // A row of a table, the numbers of its kinds, and the two numbers that bound a table.
-#[derive(Clone, Copy)]
+#[derive(Clone, Copy, Debug, Default, PartialEq, Eq)]
 pub struct Row {
     pub kind: u32,
     pub end: u32,
@@ -10,6 +10,7 @@ pub struct Row {
 }
 
 impl Row {
+    // Numbers and no enum: a table is lent memory of C, and in one that nobody checked any number may stand for a kind.
     pub const FALSE: u32 = 1;
 
     pub const TRUE: u32 = 2;

@@ -1,5 +1,6 @@
 -- The row rules hold exactly of the tables whose first rows are a right tree's; that tree is one; and every table that is read passes. Assumes
 -- nothing.
+use Rattle.std.specs.Prelude.{Ok, Err}
 use mathlib.Core.Path.{◌≡◌, refl, sym, ap, ◌∙◌, subst}
 use Prim.Native.Nat.{ℕ, suc, ◌*◌, ◌≤◌}
 use native.Mathlib.Omega.{arith}
@@ -15,7 +16,7 @@ use Rattle.lists.proofs.Sets.{sets_front}
 use Rattle.lists.proofs.Zeros.{length-zeroed}
 use Rattle.rows.specs.Table.{words_per_row, lent, limit}
 use Rattle.rows.proofs.Rows.{lent-room, lent_sets, lent-zeroed}
-use Rattle.format.specs.declared.answer.Answer.TheVariants.{Accepted, TooLong, Full}
+use Rattle.format.specs.declared.unfilled.Unfilled.TheVariants.{TooLong, Full}
 use Rattle.format.specs.Tree.{Tree, size}
 use Rattle.format.specs.Value.{Reading, right, wrong, document}
 use Rattle.format.specs.Layout.{layout}
@@ -126,26 +127,26 @@ pub record Read (depth : ℕ) (s table : List ℕ) (n : ℕ) : Type 0 where
   pub fits : size tree ≤ lent table
   pub rows : size tree ≡ n
 
-accepted_for : (rows n : ℕ) (x : Reading) → answer_for rows x ≡ Accepted n → (t : Tree) × (next : ℕ) × (x ≡ right t next) × (size t ≤ rows) × (size t ≡ n)
+accepted_for : (rows n : ℕ) (x : Reading) → answer_for rows x ≡ Ok n → (t : Tree) × (next : ℕ) × (x ≡ right t next) × (size t ≤ rows) × (size t ≡ n)
 accepted_for rows n (right t next) e = go (leb (size t) rows) refl e
   where
-    go : (b : Bool) → leb (size t) rows ≡ b → cond b (Accepted (size t)) (Full (size t)) ≡ Accepted n
+    go : (b : Bool) → leb (size t) rows ≡ b → cond b (Ok (size t)) (Err (Full (size t))) ≡ Ok n
         → (u : Tree) × (m : ℕ) × (right t next ≡ right u m) × (size u ≤ rows) × (size u ≡ n)
     go true q e = (t, next, refl, leb-true (size t) rows q, cc)
     go false q e = absurd (let z : ◌≡◌ {A = ℕ} 0 1 = cc in omega arith)
 accepted_for rows n (wrong r place) e = absurd (let z : ◌≡◌ {A = ℕ} 0 1 = cc in omega arith)
 
-pub accepted : (depth : ℕ) (s table : List ℕ) (n : ℕ) → answer depth s table ≡ Accepted n → Read depth s table n
+pub accepted : (depth : ℕ) (s table : List ℕ) (n : ℕ) → answer depth s table ≡ Ok n → Read depth s table n
 unfolding answer
 accepted depth s table n e = go (leb (length s) limit) refl e
   where
-    go : (b : Bool) → leb (length s) limit ≡ b → cond b (answer_for (lent table) (document depth s)) TooLong ≡ Accepted n → Read depth s table n
+    go : (b : Bool) → leb (length s) limit ≡ b → cond b (answer_for (lent table) (document depth s)) (Err TooLong) ≡ Ok n → Read depth s table n
     go true q e =
         let a = accepted_for (lent table) n (document depth s) e in
         record { short = leb-true (length s) limit q; tree = a.0; next = a.1; is = a.2; fits = a.3; rows = a.4 }
     go false q e = absurd (let z : ◌≡◌ {A = ℕ} 0 1 = cc in omega arith)
 
-module _ (depth : ℕ) (s table : List ℕ) (n : ℕ) (said : answer depth s table ≡ Accepted n) where
+module _ (depth : ℕ) (s table : List ℕ) (n : ℕ) (said : answer depth s table ≡ Ok n) where
   r : Read depth s table n
   r = accepted depth s table n said
 

@@ -1,4 +1,5 @@
 -- Every tree that is read is right: a law for each kind of leaf, then by induction on the levels left. Assumes nothing.
+use Rattle.std.specs.Prelude.{Result, Ok, Err}
 use mathlib.Core.Path.{◌≡◌, refl, sym, ap, ◌∙◌, subst}
 use Prim.Native.Nat.{ℕ, zero, suc, ◌+◌, ◌-◌, ◌≤◌, ◌<◌}
 use native.Mathlib.Omega.{arith}
@@ -16,13 +17,13 @@ use Rattle.wide.proofs.Ranks.{bool_case}
 use Rattle.wide.proofs.Runs.{number_has, bytes_whole}
 use Rattle.wide.proofs.Nearness.{behind_up, behind_zero, value_rest, has_wide}
 use Rattle.wide.proofs.Sound.{sound_integers}
-use Rattle.text.specs.declared.answer.Text.TheVariants.{WellFormed}
+use Rattle.std.specs.Prelude.{Ok}
 use Rattle.text.specs.Check.{text_of}
 use Rattle.rows.specs.Kinds.{kind_small, kind_signed, kind_unsigned, kind_float, kind_text, kind_binary, kind_key, constant_own, span_own, holder_own, char_own, foreign_own, damaged_own}
+use Rattle.format.specs.declared.refused.Refused.{Refused}
 use Rattle.format.specs.declared.refusal.Refusal.{Refusal}
 use Rattle.format.specs.declared.refusal.Refusal.TheVariants as why
 use Rattle.format.specs.declared.head.Spelling.{Spelling}
-use Rattle.format.specs.declared.head.Spelling.TheVariants.{At, No}
 use Rattle.format.specs.declared.head.Content.{Content}
 use Rattle.format.specs.declared.head.Content.TheVariants as holds
 use Rattle.format.specs.declared.head.Holder.{Holder}
@@ -90,7 +91,7 @@ module _ (s : List ℕ) where
   unfolding span inside blank
   span_yes kind place size h = le-leb (place + size) (length s) h
 
-  spelt_yes : (kind place size : ℕ) → place + size ≤ length s → text_of (take size (drop place s)) ≡ WellFormed → spelt s (span_own kind place size) ≡ true
+  spelt_yes : (kind place size : ℕ) → place + size ≤ length s → text_of (take size (drop place s)) ≡ Ok tt → spelt s (span_own kind place size) ≡ true
   unfolding spelt
   spelt_yes kind place size h e = rw (span_yes kind place size h, e)
 
@@ -174,10 +175,10 @@ abbrev FinesAt : List ℕ → ℕ → Children → ℕ → ℕ → ℕ → Readi
 FinesAt s d c k i n (ran ts next) = (many ts ≡ n) × ObeyAll s d c k i ts
 FinesAt s d c k i n (broke e place) = Unit {0}
 
-keyed_fine : (s : List ℕ) (at stop : ℕ) → stop ≤ length s → (x : Spelling) → Spelled s at stop x → FineAt (KeyObeys s) (keyed at x)
-keyed_fine s at stop l (At place n) w =
-    record { own = span_own kind_key place n; is = refl; fits = spelt_yes s kind_key place n (omega (arith, w.within)) w.spelt }
-keyed_fine s at stop l (No e) w = tt
+keyed_fine : (s : List ℕ) (at stop : ℕ) → stop ≤ length s → (x : Result Spelling Refusal) → Spelled s at stop x → FineAt (KeyObeys s) (keyed at x)
+keyed_fine s at stop l (Ok x) w =
+    record { own = span_own kind_key x.place x.size; is = refl; fits = spelt_yes s kind_key x.place x.size (omega (arith, w.within)) w.spelt }
+keyed_fine s at stop l (Err e) w = tt
 
 pub force_next : (c : Children) (k i : ℕ) → after (is_entry c) (in_force c k i) ≡ in_force c k (i + 1)
 force_next Plain k i = refl
@@ -246,20 +247,20 @@ module _ (s : List ℕ) (d : ℕ) (good : (k at stop : ℕ) → stop ≤ length 
   referred_fine k at n next true e = (omega arith, refer_shape s n 0, refl, ltb-true n k e)
   referred_fine k at n next false e = tt
 
-  step_fine : (k at stop : ℕ) → stop ≤ length s → (h : Head) → Stood s at stop h → FineAt (Obeys s (suc d) k) (step (value d s) s k at stop h)
+  step_fine : (k at stop : ℕ) → stop ≤ length s → (h : Result Head Refused) → Stood s at stop h → FineAt (Obeys s (suc d) k) (step (value d s) s k at stop h)
   unfolding step Obeys
-  step_fine k at stop l (stands.Leaf c next) w = (omega arith, content-leaf s at next c w.content (omega (arith, w.within)))
-  step_fine k at stop l (stands.Hold h n next) w =
+  step_fine k at stop l (Ok (stands.Leaf c next)) w = (omega arith, content-leaf s at next c w.content (omega (arith, w.within)))
+  step_fine k at stop l (Ok (stands.Hold h n next)) w =
       let Q : Readings = readings (value d s) (children_of h) s k 0 (child_count h n) next stop in
       held_fine h k n Q (subst (λ (x : ℕ). FinesAt s d (children_of h) x 0 (child_count h n) Q) (around_force h k 0) (run_fine (children_of h) k 0 (child_count h n) next stop l))
-  step_fine k at stop l (stands.Refer n next) w = referred_fine k at n next (ltb n k) refl
-  step_fine k at stop l (stands.Declare n next) w =
+  step_fine k at stop l (Ok (stands.Refer n next)) w = referred_fine k at n next (ltb n k) refl
+  step_fine k at stop l (Ok (stands.Declare n next)) w =
       declaring_fine k n (omega (arith, w.some)) (readings (value d s) Entries s 0 0 n next stop) (run_fine Entries 0 0 n next stop l) stop l
-  step_fine k at stop l (stands.Foreign place n) w =
+  step_fine k at stop l (Ok (stands.Foreign place n)) w =
       let x : Reading = value d s (in_foreign k) place (place + n) in
       framed_fine k place n (omega (arith, w.within)) (whole (place + n) x) refl
       (whole_fine (Obeys s d (in_foreign k)) (place + n) x (good (in_foreign k) place (place + n) (omega (arith, w.within))))
-  step_fine k at stop l (stands.Refuse e place) w = tt
+  step_fine k at stop l (Err x) w = tt
 
 pub value_fine : (s : List ℕ) (d k at stop : ℕ) → stop ≤ length s → FineAt (Obeys s d k) (value d s k at stop)
 unfolding value

@@ -8,11 +8,10 @@ use lib.ListN.{length}
 use Rattle.format.specs.Head.{float_sizes}
 use Rattle.format.specs.declared.head.Holder.{Holder}
 use Rattle.format.specs.Value.{kind_of}
-use Rattle.rows.specs.Table.{aimed}
+use Rattle.rows.specs.Table.{aimed, Own}
 use lib.Dec.{ltb, eqb}
 use borrow.Author.Tests.{eqb-true, ltb-true, lt-ltb}
 use Rattle.wide.proofs.Families.{cond-case}
-use Rattle.rows.specs.Table.{Own}
 use Rattle.rows.specs.Kinds.{kind_false, kind_true, kind_none, kind_small, kind_signed, kind_unsigned, kind_float, kind_text, kind_array, kind_record, kind_map, kind_binary, kind_char, kind_reference, kind_declaration, kind_foreign, kind_key, constant_own, span_own, holder_own, reference_own, declaration_own, foreign_own, damaged_own}
 use Rattle.rules.specs.declared.kind.Kind.{Kind}
 use Rattle.rules.specs.declared.kind.Kind.TheVariants.{Constant, Small, Signed, Unsigned, Float, Text, Holds, Binary, Char, Reference, Declaration, Whole, Damaged, Key, Unknown}

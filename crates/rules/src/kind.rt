@@ -1,7 +1,7 @@
 use format::Holder;
 
 // What a row's words are to be, by its kind.
-#[derive(Clone, Copy)]
+#[derive(Clone, Copy, Debug, PartialEq, Eq)]
 pub enum Kind {
     Constant,
     Small,
@@ -19,6 +19,6 @@ pub enum Kind {
     Damaged,
     // A record's key: it stands at no value position.
     Key,
-    // No kind at all.
+    // No kind at all. Not an Option of the others: whoever matches a kind gives it an arm, as to Key, and would take it out of Some first.
     Unknown,
 }

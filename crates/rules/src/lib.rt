@@ -17,6 +17,7 @@ pub use shape::Shape;
 pub use words::{spelt, wide_of};
 
 // What the words of a row make it at a value position, over the data s.
+#[tactic(auto, unfolding(crate::specs::Shape::shape_of))]
 pub fn shape_of(s: &[u8], w: Row) -> Shape
     ensures { result ≡ shape_of s.now (own_of w) }
 {

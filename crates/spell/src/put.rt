@@ -7,7 +7,7 @@ ghost use Rattle.rows.specs.Table.{own_of};
 ghost use Rattle.rules.specs.Shape.{named};
 ghost use Rattle.spell.specs.Inner.{Inside, own_bytes, own_size};
 
-use plan::{Plan, head_of};
+use plan::{Marks, Plan, head_of};
 use rows::Row;
 use rules::Kind;
 
@@ -15,23 +15,10 @@ use rules::Kind;
 fn has_bytes(w: Row) -> bool
     ensures { result ≡ has_bytes (named (own_of w)) }
 {
-    match rules::named(w) {
-        Kind::Constant => false,
-        Kind::Small => false,
-        Kind::Signed => false,
-        Kind::Unsigned => false,
-        Kind::Float => true,
-        Kind::Text => true,
-        Kind::Holds { holder: _ } => false,
-        Kind::Binary => true,
-        Kind::Char => false,
-        Kind::Reference => false,
-        Kind::Declaration => false,
-        Kind::Whole => false,
-        Kind::Damaged => true,
-        Kind::Key => true,
-        Kind::Unknown => false,
-    }
+    matches!(
+        rules::named(w),
+        Kind::Float | Kind::Text | Kind::Binary | Kind::Damaged | Kind::Key
+    )
 }
 
 // How many bytes a row has of its own, where its children take `size`.
@@ -39,74 +26,41 @@ pub fn row_size(w: Row, size: usize) -> usize
     ensures { result ≡ own_size w size }
 {
     let p = head_of(w, size);
-    let head = p.marks + 1 + p.size;
+    let head = p.len();
     if has_bytes(w) {
         return head + rows::number(w.w1);
     }
     head
 }
 
-fn put_marks(out: &mut [u8], at: usize, p: Plan) -> usize
-    requires { (p.marks ≤ 2) × (at + p.marks ≤ length out.old) }
-    ensures value { result ≡ at + p.marks }
-    ensures out_after { out.new ≡ sets out.old at (marks_of p.marks p.first p.second) }
+fn put_marks(out: &mut [u8], at: usize, marks: Marks) -> usize
+    requires { at + length (marks_of marks) ≤ length out.old }
+    ensures value { result ≡ at + length (marks_of marks) }
+    ensures out_after { out.new ≡ sets out.old at (marks_of marks) }
 {
-    if p.marks == 0 {
-        return at;
+    match marks {
+        Marks::Bare => at,
+        Marks::One(a) => {
+            out[at] = a;
+            at + 1
+        }
+        Marks::Two(a, b) => {
+            out[at] = a;
+            out[at + 1] = b;
+            at + 2
+        }
     }
-    out[at] = p.first;
-    if p.marks == 1 {
-        return at + 1;
-    }
-    out[at + 1] = p.second;
-    at + 2
 }
 
 fn put_plan(out: &mut [u8], at: usize, p: Plan) -> usize
-    requires { (p.marks ≤ 2) × (at + length (plan_bytes p) ≤ length out.old) }
+    requires { at + length (plan_bytes p) ≤ length out.old }
     ensures value { result ≡ at + length (plan_bytes p) }
     ensures out_after { out.new ≡ sets out.old at (plan_bytes p) }
 {
-    let next = put_marks(out, at, p);
+    let next = put_marks(out, at, p.marks);
     out[next] = p.lead;
     wide::body::write_body(out, next + 1, p.size, p.value);
     next + 1 + p.size
-}
-
-// Eight bytes of the data from `place` on: one load and one store.
-fn put_eight(out: &mut [u8], at: usize, data: &[u8], place: usize)
-    requires { (at + 8 ≤ length out.old) × (place + 8 ≤ length «data».now) }
-    ensures { out.new ≡ sets out.old at (take 8 (drop place «data».now)) }
-{
-    let a = data[place];
-    let b = data[place + 1];
-    let c = data[place + 2];
-    let d = data[place + 3];
-    let e = data[place + 4];
-    let f = data[place + 5];
-    let g = data[place + 6];
-    let h = data[place + 7];
-    out[at] = a;
-    out[at + 1] = b;
-    out[at + 2] = c;
-    out[at + 3] = d;
-    out[at + 4] = e;
-    out[at + 5] = f;
-    out[at + 6] = g;
-    out[at + 7] = h;
-}
-
-// Eight bytes or more: in eights, and the last eight again where they are not all new.
-fn put_long(out: &mut [u8], at: usize, data: &[u8], place: usize, size: usize)
-    requires { (8 ≤ size) × (at + size ≤ length out.old) × (place + size ≤ length «data».now) }
-    ensures { out.new ≡ sets out.old at (take size (drop place «data».now)) }
-{
-    let mut i = 0;
-    while 8 < size - i {
-        put_eight(out, at + i, data, place + i);
-        i += 8;
-    }
-    put_eight(out, at + (size - 8), data, place + (size - 8));
 }
 
 // `size` bytes of the data from `place` on.
@@ -114,15 +68,7 @@ fn put_part(out: &mut [u8], at: usize, data: &[u8], place: usize, size: usize)
     requires { (at + size ≤ length out.old) × (place + size ≤ length «data».now) }
     ensures { out.new ≡ sets out.old at (take size (drop place «data».now)) }
 {
-    if 8 <= size {
-        put_long(out, at, data, place, size);
-        return;
-    }
-    let mut i = 0;
-    while i < size {
-        out[at + i] = data[place + i];
-        i += 1;
-    }
+    out[at..at + size].copy_from_slice(&data[place..place + size]);
 }
 
 // A row's own bytes at `at`, where it has none of the data; only the contract speaks of them.

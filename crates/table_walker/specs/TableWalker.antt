@@ -2,20 +2,19 @@
 use Rattle.std.specs.Prelude.{ℕ, List}
 use Rattle.std.specs.Borrow.{Bor}
 use Rattle.walker.specs.declared.standing.Standing.{Standing}
-use Rattle.walker.specs.declared.step.Step.{Step}
-use Rattle.walker.specs.Walk.{standing, step_in, step_on, step_along}
+use Rattle.walker.specs.Walk.{Step, step_in, step_on, step_along}
 use Rattle.table_walker.specs.declared.Walker.{Walker}
 
 -- "A walker stands on a row of a lent table, with the end of the holder around it as its bound": a lent table of n rows, and a standing on it
 abbrev pub walker_at : Bor (List ℕ) → ℕ → Standing → Walker
-walker_at table n at = record { table = table; n = n; row = at.row; bound = at.bound }
+walker_at table n at = record { table = table; n = n; at = at }
 
 -- "In", "On" and "Along" from where a walker stands
 abbrev pub walker_in : Walker → Step
-walker_in w = step_in w.table.now w.n (standing w.row w.bound)
+walker_in w = step_in w.table.now w.n w.at
 
 abbrev pub walker_on : Walker → Step
-walker_on w = step_on w.table.now w.n (standing w.row w.bound)
+walker_on w = step_on w.table.now w.n w.at
 
 abbrev pub walker_along : Walker → Step
-walker_along w = step_along w.table.now w.n (standing w.row w.bound)
+walker_along w = step_along w.table.now w.n w.at

@@ -1,70 +1,61 @@
-// A walker that holds the table that it walks. Each step takes it apart and calls the function of `walker`, its fields in the order of that one's
-// parameters.
+// A walker that holds the table that it walks.
 #![tactic(auto)]
 
 ghost use Rattle.std.specs.Prelude.{◌≡◌};
-ghost use Rattle.walker.specs.Walk.{standing, start_of, step_in};
+ghost use Rattle.walker.specs.Walk.{start_of, step_in};
 ghost use Rattle.table_walker.specs.TableWalker.{walker_at, walker_in, walker_on, walker_along};
 
-use walker::Step;
+use walker::{Standing, Unmoved};
 
 // A table of n rows, and a standing on it.
-#[derive(Clone, Copy)]
+#[derive(Clone, Copy, Debug)]
 pub struct Walker<'a> {
     pub table: &'a [u32],
     pub n: usize,
-    pub row: usize,
-    pub bound: usize,
+    pub at: Standing,
 }
 
-// A walker on row 0 of n rows.
-pub fn walker_start<'a>(table: &'a [u32], n: usize) -> Walker<'a>
-    ensures { result ≡ walker_at table.entry n (start_of n) }
-{
-    Walker {
-        table,
-        n,
-        row: 0,
-        bound: n,
+impl<'a> Walker<'a> {
+    // A walker on row 0 of n rows.
+    pub fn start(table: &'a [u32], n: usize) -> Walker<'a>
+        ensures { result ≡ walker_at table.entry n (start_of n) }
+    {
+        let at = walker::start(n);
+        Walker { table, n, at }
     }
-}
 
-// The same table, stood on elsewhere: where a step led, or where an earlier one was asked from.
-pub fn walker_to<'a>(w: Walker<'a>, row: usize, bound: usize) -> Walker<'a>
-    ensures { result ≡ walker_at w.entry.table w.entry.n (standing row bound) }
-{
-    Walker {
-        table: w.table,
-        n: w.n,
-        row,
-        bound,
+    // The same table, stood on elsewhere: where a step led, or where an earlier one was asked from.
+    pub fn to(self, at: Standing) -> Walker<'a>
+        ensures { result ≡ walker_at self.entry.table self.entry.n at }
+    {
+        Walker { at, ..self }
     }
-}
 
-// In: to the first child.
-pub fn walker_in<'a>(w: Walker<'a>) -> Step
-    ensures { result ≡ walker_in w.entry }
-{
-    walker::in_from(w.table, w.n, w.row, w.bound)
-}
+    // In: to the first child.
+    pub fn step_in(self) -> Result<Standing, Unmoved>
+        ensures { result ≡ walker_in self.entry }
+    {
+        walker::step_in(self.table, self.n, self.at)
+    }
 
-// On: to the next child of the same holder.
-pub fn walker_on<'a>(w: Walker<'a>) -> Step
-    ensures { result ≡ walker_on w.entry }
-{
-    walker::on_from(w.table, w.n, w.row, w.bound)
-}
+    // On: to the next child of the same holder.
+    pub fn step_on(self) -> Result<Standing, Unmoved>
+        ensures { result ≡ walker_on self.entry }
+    {
+        walker::step_on(self.table, self.n, self.at)
+    }
 
-// Along: to the entry of a reference.
-pub fn walker_along<'a>(w: Walker<'a>) -> Step
-    ensures { result ≡ walker_along w.entry }
-{
-    walker::along_from(w.table, w.n, w.row, w.bound)
+    // Along: to the entry of a reference.
+    pub fn step_along(self) -> Result<Standing, Unmoved>
+        ensures { result ≡ walker_along self.entry }
+    {
+        walker::step_along(self.table, self.n, self.at)
+    }
 }
 
 // The first child of row 0. Its parameters are plain.
-pub fn first_child(table: &[u32], n: usize) -> Step
+pub fn first_child(table: &[u32], n: usize) -> Result<Standing, Unmoved>
     ensures { result ≡ step_in table.now n (start_of n) }
 {
-    walker_in(walker_start(table, n))
+    Walker::start(table, n).step_in()
 }

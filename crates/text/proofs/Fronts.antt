@@ -8,8 +8,7 @@ use mathlib.Core.Path.{◌≡◌, refl, ap, subst}
 use native.Mathlib.Omega.{arith}
 use lib.ListN.{length, take}
 use Rattle.text.specs.Syntax.{◌to◌, Line, UTF8-char}
-use Rattle.text.specs.Grammar.{end, byte}
-use Rattle.text.specs.Grammar.{Sequence}
+use Rattle.text.specs.Grammar.{end, byte, Sequence}
 use Rattle.text.specs.Check.{in_range, matches, taken, sequence}
 use Rattle.text.proofs.Table.{within_true, within_bounds, Ordered, ordered, below}
 

@@ -2,29 +2,28 @@
 -- sequence begins. Assumes nothing.
 use Prim.Native.Nat.{ℕ, ◌+◌, ◌≤◌}
 use mathlib.Core.List.{List, [], ◌++◌, append-nil}
+use Rattle.std.specs.Prelude.{Ok}
 use mathlib.Core.Path.{◌≡◌, sym, ap, subst, ◌∙◌}
 use native.Mathlib.Omega.{arith}
 use lib.ListN.{length, take, drop, length-drop, take-append-drop}
 use lib.Seq.{length-take-le}
-use Rattle.text.specs.declared.answer.Text.{Text}
-use Rattle.text.specs.declared.answer.Text.TheVariants.{WellFormed, IllFormed}
 use Rattle.text.specs.Grammar.{Sequences, Breaks}
-use Rattle.text.specs.Check.{text_from, text_of}
+use Rattle.text.specs.Check.{Text, ill_formed, text_from, text_of}
 use Rattle.text.proofs.Walks.{stops}
 use Rattle.text.proofs.Runs.{passed, join, nothing, Judged, judged}
 
 -- a run of sequences is well formed
-pub well-formed : {s : List ℕ} → Sequences s → text_of s ≡ WellFormed
+pub well-formed : {s : List ℕ} → Sequences s → text_of s ≡ Ok tt
 unfolding text_of text_from
 well-formed {s} h = ap (text_from 0 0) (sym (append-nil s)) ∙ passed h 0 []
 
 -- and nothing else is
-pub sequences : (s : List ℕ) → text_of s ≡ WellFormed → Sequences s
+pub sequences : (s : List ℕ) → text_of s ≡ Ok tt → Sequences s
 unfolding text_of
 sequences s e = subst (Judged 0 s) e (judged 0 0 s)
 
 -- the offset is where the first ill-formed sequence begins
-pub first_break : (s : List ℕ) (k : ℕ) → text_of s ≡ IllFormed k → Breaks s k
+pub first_break : (s : List ℕ) (k : ℕ) → text_of s ≡ ill_formed k → Breaks s k
 unfolding text_of
 first_break s k e =
     let b = subst (Judged 0 s) e (judged 0 0 s) in
@@ -32,7 +31,7 @@ first_break s k e =
     subst (Breaks s) j b.2
 
 -- and where that begins is the offset
-pub offset : (s : List ℕ) (k : ℕ) → Breaks s k → text_of s ≡ IllFormed k
+pub offset : (s : List ℕ) (k : ℕ) → Breaks s k → text_of s ≡ ill_formed k
 unfolding text_of
 offset s k b =
     let inside : k ≤ length s = omega (arith, b.inside) in
@@ -43,7 +42,7 @@ offset s k b =
     ∙ stops k (drop k s) (omega (arith, length-drop k s, b.inside)) (nothing (drop k s) b.none_there)
 
 -- joined, well-formed texts are well formed
-pub joined : (a b : List ℕ) → text_of a ≡ WellFormed → text_of b ≡ WellFormed → text_of (a ++ b) ≡ WellFormed
+pub joined : (a b : List ℕ) → text_of a ≡ Ok tt → text_of b ≡ Ok tt → text_of (a ++ b) ≡ Ok tt
 joined a b p q = well-formed (join (sequences a p) (sequences b q))
 
 -- two answers that the promise allows are equal

@@ -1,17 +1,15 @@
 -- The walk over a text passes runs of sequences, and what it answers is so. Assumes nothing.
 use Prim.Native.Nat.{ℕ, zero, suc, ◌+◌}
 use mathlib.Core.List.{List, [], ◌∷◌, ◌++◌, append_assoc, Memᴰ}
+use Rattle.std.specs.Prelude.{Ok, Err}
 use mathlib.Core.Path.{◌≡◌, refl, sym, ap, subst, ◌∙◌}
 use native.Mathlib.Nat.{add-zero, add_assoc}
 use native.Mathlib.Omega.{arith}
 use lib.ListN.{length, take, drop, length-append, length-drop, take-append-drop}
 use lib.Seq.{drop-append_seam, take-add, drop-drop}
-use Rattle.text.specs.declared.answer.Text.{Text}
-use Rattle.text.specs.declared.answer.Text.TheVariants.{WellFormed, IllFormed}
 use Rattle.text.specs.Syntax.{Line, UTF8-char}
-use Rattle.text.specs.Grammar.{none, more}
-use Rattle.text.specs.Grammar.{Sequence, Sequences, Breaks}
-use Rattle.text.specs.Check.{sequence, begins, text_from}
+use Rattle.text.specs.Grammar.{none, more, Sequence, Sequences, Breaks}
+use Rattle.text.specs.Check.{Text, sequence, begins, text_from}
 use Rattle.text.proofs.Fronts.{Front, front, sequence-taken, sequence-bytes}
 use Rattle.text.proofs.Walks.{goes_on_lem}
 
@@ -40,13 +38,13 @@ nothing s h = go (sequence s) refl
 
 -- what an answer says of s, whose first byte stands at the offset `at`
 abbrev pub Judged : ℕ → List ℕ → Text → Type 0
-Judged at s WellFormed = Sequences s
-Judged at s (IllFormed k) = (j : ℕ) × (k ≡ at + j) × Breaks s j
+Judged at s (Ok u) = Sequences s
+Judged at s (Err e) = (j : ℕ) × (e.offset ≡ at + j) × Breaks s j
 
 -- a sequence of n bytes, and what is said of those behind it
 ahead : (at n : ℕ) (s : List ℕ) → Front s n → (t : Text) → Judged (at + n) (drop n s) t → Judged at s t
-ahead at n s f WellFormed r = subst Sequences (take-append-drop n s) (more f.listed f.made r)
-ahead at n s f (IllFormed k) r = (n + r.0, omega arith, later r.0 r.2)
+ahead at n s f (Ok u) r = subst Sequences (take-append-drop n s) (more f.listed f.made r)
+ahead at n s f (Err e) r = (n + r.0, omega arith, later r.0 r.2)
   where
     later : (j : ℕ) → Breaks (drop n s) j → Breaks s (n + j)
     later j b =

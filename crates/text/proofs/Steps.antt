@@ -2,18 +2,17 @@
 use Prim.Native.Nat.{ℕ, zero, suc, ◌+◌, ◌-◌, ◌≤◌, ◌<◌}
 use mathlib.Core.Bool.{Bool, true, false, cond, and-false}
 use mathlib.Core.List.{List, [], ◌∷◌}
+use Rattle.std.specs.Prelude.{Option, Some, None, Ok}
 use mathlib.Core.Path.{◌≡◌, refl, sym, ap, subst, ◌∙◌}
 use native.Mathlib.Omega.{arith}
 use native.Mathlib.Numerals.{add-one}
 use lib.ListN.{length, get_or, drop, replicate, length-drop, drop_of_length-le}
 use lib.Seq.{drop-cons, drop-drop}
-use Rattle.text.specs.declared.answer.Text.TheVariants.{WellFormed, IllFormed}
 use Rattle.text.specs.declared.lead.Lead.{Lead}
-use Rattle.text.specs.declared.lead.Lead.TheVariants.{Starts, Never}
 use Rattle.text.specs.Syntax.{◌to◌, Line, UTF8-tail, plain_byte}
-use Rattle.text.specs.Inner.{lead_of, PlainTo}
-use Rattle.text.specs.Check.{in_range, matches, sequence, text_from, text_of}
-use Rattle.text.proofs.Leads.{tails, length_tails, lead_at, lead_starts, lead_never}
+use Rattle.text.specs.Inner.{goes_on, lead_of, PlainTo}
+use Rattle.text.specs.Check.{ill_formed, in_range, matches, sequence, text_from, text_of}
+use Rattle.text.proofs.Leads.{tails, tails_of, length_tails, lead_at, lead_starts, lead_never}
 use Rattle.text.proofs.Walks.{goes_on_lem, stops}
 use Rattle.text.proofs.PlainRuns.{times}
 
@@ -35,7 +34,7 @@ pub start : (s : List ℕ) → Reached s 0
 unfolding text_of
 start s = record { inside = omega arith; answer = refl }
 
-pub at_end : (s : List ℕ) (i : ℕ) → Reached s i → length s ≤ i → WellFormed ≡ text_of s
+pub at_end : (s : List ℕ) (i : ℕ) → Reached s i → length s ≤ i → Ok tt ≡ text_of s
 unfolding text_from
 at_end s i r h = ap (text_from i 0) (sym (drop_of_length-le s h)) ∙ r.answer
 
@@ -45,7 +44,7 @@ found s i at r l h e =
     let on = goes_on_lem i (at - i) (drop i s) (omega arith) e in
     record { inside = h; answer = ap (λ (j : ℕ). text_from j 0 (drop j s)) k ∙ rw (← drop-drop (at - i) i s, ← on) r.answer }
 
-lost : (s : List ℕ) (i : ℕ) → Reached s i → i < length s → sequence (drop i s) ≡ 0 → IllFormed i ≡ text_of s
+lost : (s : List ℕ) (i : ℕ) → Reached s i → i < length s → sequence (drop i s) ≡ 0 → ill_formed i ≡ text_of s
 lost s i r h e = sym (stops i (drop i s) (simp length-drop (omega arith)) e) ∙ r.answer
 
 -- fewer bytes than ranges
@@ -58,8 +57,8 @@ too_few (r ∷ l) (b ∷ s) h = rw (too_few l s (omega arith)) (and-false (in_ra
 plain : (s : List ℕ) (i : ℕ) → Reached s i → i < length s → in_range plain_byte (get_or s i 0) ≡ true → Reached s (i + 1)
 plain s i r h p =
     let k : i + 1 - i ≡ 1 = omega arith in
-    let l = lead_at 0 (get_or s i 0) (Starts 0 0x80 0xBF) p refl in
-    let e = lead_starts (get_or s i 0) 0 0x80 0xBF (drop (suc i) s) (sym l) in
+    let l = lead_at 0 (get_or s i 0) (goes_on 0 (0x80 to 0xBF)) p refl in
+    let e = lead_starts (get_or s i 0) _ (drop (suc i) s) (sym l) in
     found s i (i + 1) r (omega arith) (omega arith) (rw (k, drop-cons s i 0 h) e)
 
 -- a run of such bytes
@@ -70,21 +69,21 @@ passed_plain s i j r p =
     (times (Reached s) i (j - i) r
     (λ k b q. plain s (i + k) q (omega (arith, p.rises, p.inside)) (p.plain (i + k) (omega arith) (omega (arith, p.rises)))))
 
-pub no_lead : (s : List ℕ) (i : ℕ) (l : Lead) → Reached s i → i < length s → l ≡ lead_of (get_or s i 0) → l ≡ Never → IllFormed i ≡ text_of s
+pub no_lead : (s : List ℕ) (i : ℕ) (l : Option Lead) → Reached s i → i < length s → l ≡ lead_of (get_or s i 0) → l ≡ None → ill_formed i ≡ text_of s
 no_lead s i l r h e q = lost s i r h (rw (drop-cons s i 0 h) (lead_never (get_or s i 0) (drop (suc i) s) (sym e ∙ q)))
 
-module _ (s : List ℕ) (i n low high : ℕ) (l : Lead) (r : Reached s i) (h : i < length s) (e : l ≡ lead_of (get_or s i 0)) (q : l ≡ Starts n low high) where
-  behind : sequence (drop i s) ≡ cond (matches (tails n low high) (drop (i + 1) s)) (suc n) 0
-  behind = rw (add-one, drop-cons s i 0 h) (lead_starts (get_or s i 0) n low high (drop (suc i) s) (sym e ∙ q))
+module _ (s : List ℕ) (i : ℕ) (l : Option Lead) (f : Lead) (r : Reached s i) (h : i < length s) (e : l ≡ lead_of (get_or s i 0)) (q : l ≡ Some f) where
+  behind : sequence (drop i s) ≡ cond (matches (tails_of f) (drop (i + 1) s)) (suc f.left) 0
+  behind = rw (add-one, drop-cons s i 0 h) (lead_starts (get_or s i 0) f (drop (suc i) s) (sym e ∙ q))
 
-  pub lead : n ≤ length s - (i + 1) → Passing s i (i + 1 + n) low high (i + 1)
+  pub lead : f.left ≤ length s - (i + 1) → Passing s i (i + 1 + f.left) f.low f.high (i + 1)
   lead a =
-      let k : i + 1 + n - (i + 1) ≡ n = omega arith in
-      let m : i + 1 + n - i ≡ suc n = omega arith in
+      let k : i + 1 + f.left - (i + 1) ≡ f.left = omega arith in
+      let m : i + 1 + f.left - i ≡ suc f.left = omega arith in
       record { reached = r; begun = omega arith; left = omega arith; inside = omega arith; rest = rw (k, m) behind }
 
-  pub cut : length s - (i + 1) < n → IllFormed i ≡ text_of s
-  cut a = lost s i r h (behind ∙ rw (too_few (tails n low high) (drop (i + 1) s) (omega (arith, length-drop (i + 1) s, length_tails n low high))))
+  pub cut : length s - (i + 1) < f.left → ill_formed i ≡ text_of s
+  cut a = lost s i r h (behind ∙ rw (too_few (tails_of f) (drop (i + 1) s) (omega (arith, length-drop (i + 1) s, length_tails f.left f.low f.high))))
 
 -- all tails, or one and the others
 all_tails : (n : ℕ) → replicate n UTF8-tail ≡ tails n 0x80 0xBF
@@ -114,7 +113,7 @@ module _ (s : List ℕ) (i end low high at : ℕ) (x : Bool) (p : Passing s i en
       let m = one_tail (end - at) low high (get_or s at 0) (drop (suc at) s) (omega arith) (sym e ∙ t) in
       record { reached = p.reached; begun = omega arith; left = omega arith; inside = p.inside; rest = rw (k, add-one, ← m, ← drop-cons s at 0 a) p.rest }
 
-  pub outside : x ≡ false → IllFormed i ≡ text_of s
+  pub outside : x ≡ false → ill_formed i ≡ text_of s
   outside t =
       let a : at < length s = omega arith in
       let m = no_tail (end - at) low high (get_or s at 0) (drop (suc at) s) (omega arith) (sym e ∙ t) in

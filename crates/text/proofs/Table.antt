@@ -14,13 +14,6 @@ use Rattle.text.specs.Check.{in_range, taken}
 pub within_true : (low high b : ℕ) → low ≤ b → b ≤ high → in_range (low to high) b ≡ true
 within_true low high b p q = simp (le-leb, p, q)
 
--- where the second test decides, and where the first does
-pub upper : (low high b : ℕ) → low ≤ b → leb b high ≡ in_range (low to high) b
-upper low high b p = simp (le-leb, p)
-
-pub lower : (low high b : ℕ) → b < low → leb low b ≡ in_range (low to high) b
-lower low high b p = simp (lt-leb, p)
-
 pub within_false : (low high b : ℕ) → (low ≤ b → high < b) → in_range (low to high) b ≡ false
 within_false low high b p = go (leb low b) refl
   where

@@ -21,22 +21,30 @@ pub fn is_plain(b: u8) -> bool
 }
 
 // Behind the first byte: n( UTF8-tail )
-fn tails(n: usize) -> Lead
+fn tails(n: usize) -> Option<Lead>
     ensures { result ≡ goes_on n UTF8-tail }
 {
-    Lead::Starts(n, TAIL_LOW, TAIL_HIGH)
+    Some(Lead {
+        left: n,
+        low: TAIL_LOW,
+        high: TAIL_HIGH,
+    })
 }
 
 // Behind the first byte: one from low to high, then n( UTF8-tail )
-fn then(low: u8, high: u8, n: usize) -> Lead
+fn then(low: u8, high: u8, n: usize) -> Option<Lead>
     requires { n ≤ 2 }
     ensures { result ≡ goes_on (n + 1) (low to high) }
 {
-    Lead::Starts(n + 1, low, high)
+    Some(Lead {
+        left: n + 1,
+        low,
+        high,
+    })
 }
 
 // The lines that the first byte of a sequence tells apart.
-pub fn lead_of(b: u8) -> Lead
+pub fn lead_of(b: u8) -> Option<Lead>
     ensures { result ≡ lead_of b }
 {
     if is_plain(b) {
@@ -58,7 +66,7 @@ pub fn lead_of(b: u8) -> Lead
     } else if b == 0xf4 {
         then(0x80, 0x8f, 2) //        / %xF4 %x80-8F 2( UTF8-tail )
     } else {
-        Lead::Never
+        None
     }
 }
 

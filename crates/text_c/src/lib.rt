@@ -6,7 +6,7 @@ ghost use Rattle.std.specs.Prelude.{◌≡◌, length};
 ghost use Rattle.text.specs.Check.{text_of};
 ghost use Rattle.text_c.specs.UpTo.{up_to};
 
-use text::Text;
+use text::IllFormed;
 
 // How many bytes are text, from the front on: all, or those before the first ill-formed sequence.
 #[unsafe(no_mangle)]
@@ -14,7 +14,7 @@ pub extern "C" fn panxidell_text(data: &[u8]) -> usize
     ensures { result ≡ up_to (length «data».now) (text_of «data».now) }
 {
     match text::check(data) {
-        Text::WellFormed => data.len(),
-        Text::IllFormed { offset } => offset,
+        Ok(()) => data.len(),
+        Err(IllFormed { offset }) => offset,
     }
 }

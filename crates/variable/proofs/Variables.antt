@@ -4,34 +4,41 @@ use mathlib.Core.Path.{◌≡◌, ◌∙◌, sym, ap, ap₂, refl}
 use mathlib.Core.Bool.{Bool, true, false, not}
 use mathlib.Core.List.{List, [], ◌∷◌}
 use Prim.Native.Nat.{ℕ, suc, ◌+◌, ◌-◌, ◌*◌, ◌%◌, ◌^◌, ◌≤◌, ◌<◌}
-use native.Mathlib.Nat.{add-mod_right, not-suc-le-zero}
+use native.Mathlib.Nat.{add-mod_right}
 use native.Mathlib.Numerals.{add-one}
 use native.Mathlib.Omega.{arith}
-use lib.ListN.{length, take, drop, get_or}
+use lib.ListN.{length, take}
 use lib.Dec.{leb, ltb, lit≤}
 use borrow.Author.Tests.{le-leb, lt-leb, lt-ltb, le-ltb}
 use Rattle.wide.specs.declared.wide.Wide.{Wide}
-use Rattle.variable.specs.declared.answer.Read.TheVariants.{Got, Short}
+use Rattle.std.specs.Prelude.{Ok, Err}
 use Rattle.wide.specs.Number.{bytes_of}
 use Rattle.wide.specs.Words.{wide_end, wide_of}
 use Rattle.wide.specs.Body.{size_at, body_value, rank}
 use Rattle.wide.specs.Family.{behind, has_byte, number_of, has_number, byte_of, Coded, is, short, other, longer, body, unmarked, marked, coded, unmarked_form, form}
 use Rattle.wide.specs.Members.{none, unsigned, signed}
 use Rattle.wide.specs.Inner.{variable}
-use Rattle.variable.specs.Answer.{read_as, read_of}
+use Rattle.variable.specs.Answer.{got, too_short, read_as, read_of}
 use Rattle.wide.proofs.Numbers.{either, Bytes}
 use Rattle.wide.proofs.Nearness.{behind_up, behind_round, behind_zero}
-use Rattle.wide.proofs.Ranks.{bool_case, size_low, size_high}
+use Rattle.wide.proofs.Ranks.{bool_case}
 use Rattle.wide.proofs.Families.{cond_yes, cond_no, coded-marked}
 
--- ---- the numbers of direct bytes
+-- ---- the numbers of direct bytes: `first` from 0 up, the rest of 248 below 0
 
-pub number-plain : (b : ℕ) → b < 256 → (wide_end - 0 + b) % wide_end ≡ number_of unsigned.direct b
+pub number-direct : (s : Bool) (b first : ℕ) → b < 256 → first ≡ (variable s).first
+    → (wide_end - (248 - first) + (b + (248 - first)) % 256) % wide_end ≡ number_of (variable s).direct b
 unfolding behind
-number-plain b h =
-    let e : wide_end - 0 + b ≡ b + wide_end = omega arith in
-    let f : 0 + (b + (256 - 0)) % 256 ≡ b = omega arith in
-    ap (λ (x : ℕ). x % wide_end) e ∙ add-mod_right b wide_end ∙ sym (ap (λ (x : ℕ). x % wide_end) f)
+number-direct true b first h e = rw e
+number-direct false b first h e =
+    let f : 0 + (b + (256 - 0)) % 256 ≡ (b + 0) % 256 = omega arith in
+    let g : wide_end - 0 + (b + 0) % 256 ≡ (b + 0) % 256 + wide_end = omega arith in
+    rw e (ap (λ (x : ℕ). x % wide_end) g ∙ add-mod_right ((b + 0) % 256) wide_end ∙ sym (ap (λ (x : ℕ). x % wide_end) f))
+
+pub has-direct : (s : Bool) (n first : ℕ) → first ≡ (variable s).first
+    → ltb (behind wide_end (wide_end - (248 - first)) n) (248 - first + first) ≡ has_number (variable s).direct n
+has-direct true n first e = rw e
+has-direct false n first e = rw e (ap (λ (x : ℕ). ltb x 248) (behind_zero n))
 
 -- a byte is direct exactly where no body follows it
 direct-byte : (s : Bool) (b : ℕ) → b < 256 → has_byte (variable s).direct b ≡ not (ltb (behind 256 (variable s).first b) 8)
@@ -54,12 +61,6 @@ first-low true = lit≤ tt
 first-low false = lit≤ tt
 
 -- ---- reading, by each way out
-
-pub size-some : (p k : ℕ) → k ≡ size_at p → p < 8 → 1 ≤ k
-size-some p k e h = omega (arith, size_low p h)
-
-pub size_few : (p k : ℕ) → k ≡ size_at p → p < 8 → k ≤ 16
-size_few p k e h = omega (arith, size_high p h)
 
 pub none_before : (s : Bool) (bs : List ℕ) → coded (variable s) bs ≡ unmarked (variable s) bs
 unfolding marked
@@ -99,32 +100,28 @@ module _ (s : Bool) where
       ∙ cond_yes (ltb (behind 256 (variable s).first b) 8) _ other t)
       ∙ ap (λ (j : ℕ). read_as (longer (body (variable s).signed (size_at j) bs))) (sym e)
 
-  pub read_none : (bs : List ℕ) → length bs < 1 → Short ≡ read_of (variable s) bs
+  pub read_none : (bs : List ℕ) → length bs ≡ 0 → Err too_short ≡ read_of (variable s) bs
   unfolding read_of coded
   read_none [] h = refl
-  read_none (b ∷ bs) h = let z : ⊥ = omega arith in absurd z
+  read_none (b ∷ bs) h = absurd (omega arith)
 
-  pub read_short : (bs : List ℕ) (p k : ℕ) → 1 ≤ length bs → get_or bs 0 0 < 256 → p ≡ behind 256 (variable s).first (get_or bs 0 0) → p < 8
-      → k ≡ size_at p → length bs - 1 < k → Short ≡ read_of (variable s) bs
-  read_short [] p k o h e l g m = absurd (not-suc-le-zero o)
-  read_short (b ∷ bs) p k o h e l g m =
-      sym (read_front b bs p h e l ∙ ap (λ (c : Coded). read_as (longer c)) (cond_no (leb (size_at p) (length bs)) _ short (lt-leb (size_at p) (length bs) (omega arith))))
+  module _ (b : ℕ) (bs : List ℕ) (p : ℕ) (h : b < 256) (e : p ≡ behind 256 (variable s).first b) where
+    pub read_direct : (w : Wide) → 8 ≤ p → w ≡ wide_of (number_of (variable s).direct b) → Ok (got w 1) ≡ read_of (variable s) (b ∷ bs)
+    unfolding read_of unmarked
+    read_direct w l v =
+        let t : ltb (behind 256 (variable s).first b) 8 ≡ false = le-ltb (behind 256 (variable s).first b) 8 (omega arith) in
+        ap (λ (x : Wide). Ok (got x 1)) v
+        ∙ sym (ap read_as (none_before s (b ∷ bs) ∙ cond_yes (has_byte (variable s).direct b) _ _ (direct-byte s b h ∙ ap not t)))
 
-  pub read_long : (bs : List ℕ) (p k : ℕ) (w : Wide) → 1 ≤ length bs → get_or bs 0 0 < 256 → p ≡ behind 256 (variable s).first (get_or bs 0 0) → p < 8
-      → k ≡ size_at p → k ≤ length bs - 1 → w ≡ wide_of (body_value s (take k (drop 1 bs))) → Got w (k + 1) ≡ read_of (variable s) bs
-  read_long [] p k w o h e l g m v = absurd (not-suc-le-zero o)
-  read_long (b ∷ bs) p k w o h e l g m v =
-      ap₂ Got (v ∙ ap₂ (λ (t : Bool) (j : ℕ). wide_of (body_value t (take j bs))) (sym (signed_of s)) g) (add-one k ∙ ap suc g)
-      ∙ sym (read_front b bs p h e l ∙ ap (λ (c : Coded). read_as (longer c)) (cond_yes (leb (size_at p) (length bs)) _ short (le-leb (size_at p) (length bs) (omega arith))))
+    module _ (k : ℕ) (l : p < 8) (g : k ≡ size_at p) where
+      pub read_short : length bs < k → Err too_short ≡ read_of (variable s) (b ∷ bs)
+      read_short m =
+          sym (read_front b bs p h e l ∙ ap (λ (c : Coded). read_as (longer c)) (cond_no (leb (size_at p) (length bs)) _ short (lt-leb (size_at p) (length bs) (omega arith))))
 
-  pub read_direct : (bs : List ℕ) (p : ℕ) (w : Wide) → 1 ≤ length bs → get_or bs 0 0 < 256 → p ≡ behind 256 (variable s).first (get_or bs 0 0) → 8 ≤ p
-      → w ≡ wide_of (number_of (variable s).direct (get_or bs 0 0)) → Got w 1 ≡ read_of (variable s) bs
-  unfolding read_of unmarked
-  read_direct [] p w o h e l v = absurd (not-suc-le-zero o)
-  read_direct (b ∷ bs) p w o h e l v =
-      let t : ltb (behind 256 (variable s).first b) 8 ≡ false = le-ltb (behind 256 (variable s).first b) 8 (omega arith) in
-      ap (λ (x : Wide). Got x 1) v
-      ∙ sym (ap read_as (none_before s (b ∷ bs) ∙ cond_yes (has_byte (variable s).direct b) _ _ (direct-byte s b h ∙ ap not t)))
+      pub read_long : (w : Wide) → k ≤ length bs → w ≡ wide_of (body_value s (take k bs)) → Ok (got w (k + 1)) ≡ read_of (variable s) (b ∷ bs)
+      read_long w m v =
+          ap₂ (λ (x : Wide) (u : ℕ). Ok (got x u)) (v ∙ ap₂ (λ (t : Bool) (j : ℕ). wide_of (body_value t (take j bs))) (sym (signed_of s)) g) (add-one k ∙ ap suc g)
+          ∙ sym (read_front b bs p h e l ∙ ap (λ (c : Coded). read_as (longer c)) (cond_yes (leb (size_at p) (length bs)) _ short (le-leb (size_at p) (length bs) (omega arith))))
 
 -- ---- writing, by each way out
 

@@ -6,10 +6,11 @@ use Prim.Native.Nat.{ℕ, ◌<◌}
 use native.Mathlib.Omega.{arith}
 use lib.Dec.{ltb, eqb}
 use borrow.Author.Tests.{le-ltb, ltb-true}
+use Rattle.std.specs.Prelude.{Ok, Err}
 use Rattle.rows.specs.Table.{row_at}
 use Rattle.rows.specs.Kinds.{kind_reference}
 use Rattle.walker.specs.declared.standing.Standing.{Standing}
-use Rattle.walker.specs.declared.step.Step.TheVariants.{To, NoStep}
+use Rattle.walker.specs.declared.unmoved.Unmoved.TheVariants.{NoStep}
 use Rattle.walker.specs.Walk.{standing, genuine, asked, step_on, step_along}
 
 -- "Along: a reference's entry, bound that entry's end."
@@ -18,7 +19,7 @@ pub record Reached (table : List ℕ) (n : ℕ) (at : Standing) (row bound : ℕ
   pub before : row < at.row
   pub end : bound ≡ (row_at table row).end
 
-module _ (table : List ℕ) (n : ℕ) (at : Standing) (row bound : ℕ) (e : step_along table n at ≡ To row bound) where
+module _ (table : List ℕ) (n : ℕ) (at : Standing) (row bound : ℕ) (e : step_along table n at ≡ Ok (standing row bound)) where
   abbrev entry : ℕ
   entry = (row_at table at.row).w1
 
@@ -26,17 +27,18 @@ module _ (table : List ℕ) (n : ℕ) (at : Standing) (row bound : ℕ) (e : ste
   unfolding step_along
   by true true true g k l =
       let q = rw (g, k, l) at e in
-      let i : entry ≡ row = cc in
-      let m : (row_at table entry).end ≡ bound = cc in
+      let s : standing entry (row_at table entry).end ≡ standing row bound = cc in
+      let i : entry ≡ row = ap (λ (x : Standing). x.row) s in
+      let m : (row_at table entry).end ≡ bound = ap (λ (x : Standing). x.bound) s in
       record { from = g; before = omega (arith, i, ltb-true entry at.row l); end = sym m ∙ ap (λ (x : ℕ). (row_at table x).end) i }
-  by true true false g k l = absurd (let q = rw (g, k, l) at e in let z : ◌≡◌ {A = ℕ} 0 1 = cc in omega arith)
-  by true false c g k l = absurd (let q = rw (g, k) at e in let z : ◌≡◌ {A = ℕ} 0 1 = cc in omega arith)
-  by false b c g k l = absurd (let q = rw g at e in let z : ◌≡◌ {A = ℕ} 0 1 = cc in omega arith)
+  by true true false g k l = absurd (let q = rw (g, k, l) at e in cc)
+  by true false c g k l = absurd (let q = rw (g, k) at e in cc)
+  by false b c g k l = absurd (let q = rw g at e in cc)
 
   pub reached : Reached table n at row bound
   reached = by (genuine table n at.row at.bound) (eqb (row_at table at.row).kind kind_reference) (ltb entry at.row) refl refl refl
 
   -- so on is 14, or 12 where that standing is forged
-  pub on_nowhere : step_on table n (standing row bound) ≡ asked (genuine table n row bound) NoStep
+  pub on_nowhere : step_on table n (standing row bound) ≡ asked (genuine table n row bound) (Err NoStep)
   unfolding step_on
   on_nowhere = rw (← reached.end, le-ltb bound bound (omega arith))

@@ -1,83 +1,71 @@
-// Steps from a row and a bound.
-ghost use Rattle.std.specs.Prelude.{◌≡◌, ◌<◌};
-ghost use Rattle.rows.specs.Table.{lent};
-ghost use Rattle.walker.specs.Walk.{standing, genuine, step_in, step_on, step_along};
+// Steps from a standing.
+ghost use Rattle.std.specs.Prelude.{◌≡◌, ◌<◌, IfOk, IfErr, true, false};
+ghost use Rattle.rows.specs.Table.{row_at, lent};
+ghost use Rattle.walker.specs.Walk.{genuine, step_in, step_on, step_along};
 
-use crate::step::Step;
-use rows::Row;
+use crate::standing::Standing;
+use crate::unmoved::Unmoved;
+use rows::{BadTable, Row};
 
-// Whether a standing is not forged.
-fn genuine(table: &[u32], n: usize, row: usize, bound: usize) -> bool
-    ensures { result ≡ genuine table.now n row bound }
+// The end of the row that is stood on, if the standing is not forged.
+#[tactic(auto, unfolding(crate::specs::Walk::genuine))]
+fn end_of(table: &[u32], n: usize, at: Standing) -> Result<usize, BadTable>
+    ensures stood { IfOk result (λ end. (genuine table.now n at.row at.bound ≡ true) × (end ≡ (row_at table.now at.row).end) × (at.row < lent table.now)) }
+    ensures forged { IfErr result (λ _. genuine table.now n at.row at.bound ≡ false) }
 {
-    if rows::lent(table) < n {
-        return false;
+    if n <= rows::lent(table) && at.row < n && at.row < at.bound && at.bound <= n {
+        let end = rows::number(rows::end_at(table, at.row));
+        if at.row < end && end <= at.bound {
+            return Ok(end);
+        }
     }
-    if n <= row {
-        return false;
-    }
-    if bound <= row {
-        return false;
-    }
-    if n < bound {
-        return false;
-    }
-    let end = rows::number(rows::end_at(table, row));
-    if end <= row {
-        return false;
-    }
-    end <= bound
+    Err(BadTable)
 }
 
-// In, to the first child.
-pub fn in_from(table: &[u32], n: usize, row: usize, bound: usize) -> Step
-    ensures { result ≡ step_in table.now n (standing row bound) }
+// In: to the first child.
+#[tactic(auto, unfolding(crate::specs::Walk::step_in))]
+pub fn step_in(table: &[u32], n: usize, at: Standing) -> Result<Standing, Unmoved>
+    ensures { result ≡ step_in table.now n at }
 {
-    if genuine(table, n, row, bound) {
-        let end = rows::number(rows::end_at(table, row));
-        if row + 1 < end {
-            return Step::To {
-                row: row + 1,
-                bound: end,
-            };
-        }
-        return Step::NoStep;
+    let end = end_of(table, n, at)?;
+    let row = at.row + 1;
+    if row < end {
+        Ok(Standing { row, bound: end })
+    } else {
+        Err(Unmoved::NoStep)
     }
-    Step::BadTable
 }
 
-// On, to the next child of the same holder.
-pub fn on_from(table: &[u32], n: usize, row: usize, bound: usize) -> Step
-    ensures { result ≡ step_on table.now n (standing row bound) }
+// On: to the next child of the same holder.
+#[tactic(auto, unfolding(crate::specs::Walk::step_on))]
+pub fn step_on(table: &[u32], n: usize, at: Standing) -> Result<Standing, Unmoved>
+    ensures { result ≡ step_on table.now n at }
 {
-    if genuine(table, n, row, bound) {
-        let end = rows::number(rows::end_at(table, row));
-        if end < bound {
-            return Step::To { row: end, bound };
-        }
-        return Step::NoStep;
+    let row = end_of(table, n, at)?;
+    if row < at.bound {
+        Ok(Standing {
+            row,
+            bound: at.bound,
+        })
+    } else {
+        Err(Unmoved::NoStep)
     }
-    Step::BadTable
 }
 
-// Along, to the entry of a reference.
-pub fn along_from(table: &[u32], n: usize, row: usize, bound: usize) -> Step
-    ensures { result ≡ step_along table.now n (standing row bound) }
+// Along: to the entry of a reference.
+#[tactic(auto, unfolding(crate::specs::Walk::step_along))]
+pub fn step_along(table: &[u32], n: usize, at: Standing) -> Result<Standing, Unmoved>
+    ensures { result ≡ step_along table.now n at }
 {
-    if genuine(table, n, row, bound) {
-        let w = rows::row_at(table, row);
-        if w.kind != Row::REFERENCE {
-            return Step::NoStep;
-        }
-        let entry = rows::number(w.w1);
-        if entry < row {
-            let past = rows::number(rows::end_at(table, entry));
-            return Step::To {
-                row: entry,
-                bound: past,
-            };
-        }
-        return Step::BadTable;
+    end_of(table, n, at)?;
+    let w = rows::row_at(table, at.row);
+    if w.kind != Row::REFERENCE {
+        return Err(Unmoved::NoStep);
     }
-    Step::BadTable
+    let row = rows::number(w.w1);
+    if at.row <= row {
+        return Err(Unmoved::BadTable);
+    }
+    let bound = rows::number(rows::end_at(table, row));
+    Ok(Standing { row, bound })
 }

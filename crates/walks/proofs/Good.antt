@@ -1,5 +1,5 @@
 -- A spot that stands in a table: its rows are there, it is right, and so are the entries in force. Assumes nothing.
-use Rattle.format.specs.Value.{is_key}
+use Rattle.format.specs.Value.{is_key, children_of, in_foreign}
 use mathlib.Core.Path.{◌≡◌, refl, sym, ap, ap₂, ◌∙◌, subst}
 use Prim.Native.Nat.{ℕ, zero, suc, ◌+◌, ◌-◌, ◌*◌, ◌≤◌}
 use native.Mathlib.Omega.{arith}
@@ -11,7 +11,6 @@ use Rattle.rows.specs.Table.{words_per_row, lent}
 use Rattle.format.specs.declared.head.Children.{Children}
 use Rattle.format.specs.declared.head.Children.TheVariants.{Entries}
 use Rattle.format.specs.Tree.{Tree, leaf, refer, hold, declare, foreign, damaged, Trees, none, more, many, size, sizes}
-use Rattle.format.specs.Value.{children_of, in_foreign}
 use Rattle.format.specs.Layout.{is_entry, layout, layouts, entries, in_body}
 use Rattle.format.proofs.Layouts.{no_entry, length-layout, length-body, below}
 use Rattle.rules.specs.Obeys.{KeyObeys, IfKey, after, Obeys, ObeyAll}

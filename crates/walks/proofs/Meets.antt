@@ -18,8 +18,7 @@ use Rattle.rules.specs.Shape.{shape_of, key_fits}
 use Rattle.rules.specs.Obeys.{KeyObeys, IfKey, Obeys, Stands}
 use Rattle.rules.proofs.Says.{HasInside, key_inside, float-inside, text-inside, binary-inside, key_bad, aimed_shape}
 use Rattle.walker.specs.declared.standing.Standing.{Standing}
-use Rattle.walker.specs.declared.step.Step.{Step}
-use Rattle.walker.specs.Walk.{standing, start_of}
+use Rattle.walker.specs.Walk.{Step, standing, start_of}
 use Rattle.payload.specs.declared.part.Part.{Part}
 use Rattle.payload.specs.Payload.{has_payload, part, payload_at}
 use Rattle.walks.specs.Spots.{Spot, spot, Spots, nil, cons, spot_tree, spot_row, spot_rows, Way, tree_step, bound_of, step_for, go_on, tree_walk, tree_end, go_to, table_walk, table_end, InTable, AllInTable, own_part}

@@ -8,6 +8,8 @@ use native.Mathlib.Decide.{dec_lt}
 use mathlib.Core.List.{List}
 use lib.ListN.{length, get_or}
 use borrow.Author.Tests.{lt-ltb, le-leb, eq-eqb, ne_eqb}
+use Rattle.std.specs.Prelude.{Some, None, Result, Ok}
+use Rattle.rows.specs.declared.bad_table.BadTable.{BadTable}
 use Rattle.rows.specs.declared.row.Row.{Row}
 use Rattle.rows.specs.Table.{row_at, lent}
 use Rattle.rows.specs.Kinds.{kind_reference, kind_declaration}
@@ -15,11 +17,8 @@ use Rattle.format.specs.Tree.{Tree, leaf, refer, hold, declare, foreign, damaged
 use Rattle.format.specs.Value.{in_foreign}
 use Rattle.format.proofs.Layouts.{size_pos, own_at, top_row}
 use Rattle.rules.specs.Obeys.{Obeys, Stands}
-use Rattle.resolve.specs.declared.one_move.Move.{Move}
-use Rattle.resolve.specs.declared.one_move.Move.TheVariants as go
 use Rattle.resolve.specs.declared.resolved.Resolved.{Resolved}
-use Rattle.resolve.specs.declared.resolved.Resolved.TheVariants.{At}
-use Rattle.resolve.specs.Resolve.{value_row, move_from, move_at, chased, chase, resolve}
+use Rattle.resolve.specs.Resolve.{value_row, Move, to_row, move_from, move_at, chased, ended_at, chase, resolve}
 use Rattle.walks.specs.Spots.{Spot, spot, Spots, nil, cons, spot_row, spot_rows, added, front, for_body, siblings, declared, children}
 use Rattle.walks.proofs.Good.{Before, Good, Goods, value_fine, children-good}
 use Rattle.walks.proofs.Neither.{Neither, kind-is}
@@ -154,11 +153,11 @@ module _ (table : List ℕ) (n : ℕ) (s : List ℕ) (m r : ℕ) where
 -- ---- one move
 
 -- where resolving ended: `most` bounds the moves
-pub record Ended (table : List ℕ) (n most : ℕ) (r : Resolved) : Type 0 where
+pub record Ended (table : List ℕ) (n most : ℕ) (r : Result Resolved BadTable) : Type 0 where
   pub row : ℕ
   pub bound : ℕ
   pub moves : ℕ
-  pub is : r ≡ At row bound moves
+  pub is : r ≡ Ok (ended_at row bound moves)
   pub few : moves < most
   pub below : row < n
   pub end : bound ≡ (row_at table row).end
@@ -169,21 +168,21 @@ module _ (table : List ℕ) (n : ℕ) (s : List ℕ) where
   unfolding move_at
   at_move row h w e = rw (lt-ltb row n h, e)
 
-  neither_stop : (row : ℕ) (w : Row) → Neither w.kind → move_from table n row w ≡ go.Stop
+  neither_stop : (row : ℕ) (w : Row) → Neither w.kind → move_from table n row w ≡ Ok None
   neither_stop row w k = rw (ne_eqb w.kind kind_reference k.no_reference, ne_eqb w.kind kind_declaration k.no_declaration)
 
   -- the value behind good entries
   value-right : (es : Trees) (t : Tree) (row end : ℕ) (force : Spots) → Goods table n s (declared es t row force) → row + (sizes es + size t) ≤ end
-      → value_row table n end (many es) row ≡ go.To (row + sizes es)
+      → value_row table n end (many es) row ≡ Ok (row + sizes es)
   unfolding declared Good size many value_row
   value-right none t row end force g h =
       let o = good-own table n s (spot t row force) g.0 in
-      rw (lt-ltb row n (omega (arith, o.1, o.2)), lt-ltb row end (omega (arith, size_pos t))) (ap go.To (sym (add-zero row)))
+      rw (lt-ltb row n (omega (arith, o.1, o.2)), lt-ltb row end (omega (arith, size_pos t))) (ap (λ (r : ℕ). Ok r) (sym (add-zero row)))
   value-right (more e es) t row end force g h =
       let o = good-own table n s (spot e row force) g.0 in
       let q : row + size e + sizes es ≡ row + (size e + sizes es) = omega arith in
       rw (o.0, lt-ltb row n (omega (arith, o.1, o.2)), lt-ltb row (row + size e) (omega (arith, size_pos e)), le-leb (row + size e) end (omega arith))
-      (value-right es t (row + size e) end (added force (spot e row force)) g.1 (omega arith) ∙ ap go.To q)
+      (value-right es t (row + size e) end (added force (spot e row force)) g.1 (omega arith) ∙ ap (λ (r : ℕ). Ok r) q)
 
   -- the last of them
   declared_last : (es : Trees) (t : Tree) (row m : ℕ) (force : Spots) → Goods table n s (declared es t row force) → Light m (declared es t row force) → Found table n s m (row + sizes es)
@@ -205,8 +204,8 @@ module _ (table : List ℕ) (n : ℕ) (s : List ℕ) where
 
   -- a spot's move: none, or to a lighter spot
   data Moves (x : Spot) : Type 0 where
-    stop : move_at table n (spot_row x) ≡ go.Stop → Neither (row_at table (spot_row x)).kind → Moves x
-    on : (row : ℕ) → move_at table n (spot_row x) ≡ go.To row → Found table n s (weight x - 1) row → Moves x
+    stop : move_at table n (spot_row x) ≡ Ok None → Neither (row_at table (spot_row x)).kind → Moves x
+    on : (row : ℕ) → move_at table n (spot_row x) ≡ Ok (Some row) → Found table n s (weight x - 1) row → Moves x
 
   rests : (t : Tree) (row : ℕ) (force : Spots) → Good table n s (spot t row force) → Neither (own_at t (spot_rows force)).kind → Moves (spot t row force)
   unfolding Good
@@ -241,7 +240,7 @@ module _ (table : List ℕ) (n : ℕ) (s : List ℕ) where
       let c = value-right es t (row + 1) end nil (children-good table n s x g) (omega arith) in
       on (row + 1 + sizes es)
       (at_move row (omega (arith, a.1, a.2)) (top_row (declare o es t) row R) (stood_row table n s (declare o es t) row R g.0)
-      ∙ rw is (ap (λ (y : ℕ). value_row table n end y (row + 1)) (sym f.2) ∙ c))
+      ∙ rw is (ap (λ (y : ℕ). to_row (value_row table n end y (row + 1))) (sym f.2) ∙ ap to_row c))
       (declared_last es t (row + 1) m nil (children-good table n s x g) (declared_light es t (row + 1) m nil tt (omega arith)))
   moves (spot (foreign o t) row force) g k = let R : List ℕ = spot_rows force in rests (foreign o t) row force g (kind-is s (length R) R (foreign o t) g.0.right)
   moves (spot (damaged o) row force) g k = let R : List ℕ = spot_rows force in rests (damaged o) row force g (kind-is s (length R) R (damaged o) g.0.right)
@@ -259,7 +258,7 @@ module _ (table : List ℕ) (n : ℕ) (s : List ℕ) where
         row = spot_row x;
         bound = (row_at table (spot_row x)).end;
         moves = done;
-        is = ap (λ (m : Move). chased m (At (spot_row x) (row_at table (spot_row x)).end done) (λ next. chase table n left next (done + 1))) e;
+        is = ap (λ (m : Move). chased m (ended_at (spot_row x) (row_at table (spot_row x)).end done) (λ next. chase table n left next (done + 1))) e;
         few = omega (arith, weight_pos x);
         below = omega (arith, o.1, o.2);
         end = refl;
@@ -272,7 +271,7 @@ module _ (table : List ℕ) (n : ℕ) (s : List ℕ) where
         bound = r.bound;
         moves = r.moves;
         is =
-            ap (λ (m : Move). chased m (At (spot_row x) (row_at table (spot_row x)).end done) (λ next. chase table n left next (done + 1))) e
+            ap (λ (m : Move). chased m (ended_at (spot_row x) (row_at table (spot_row x)).end done) (λ next. chase table n left next (done + 1))) e
             ∙ ap (λ (y : ℕ). chase table n left y (done + 1)) (sym f.is) ∙ r.is;
         few = omega (arith, r.few, f.light, weight_pos x);
         below = r.below;

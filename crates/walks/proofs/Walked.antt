@@ -8,6 +8,7 @@ use mathlib.Core.List.{List, [], ◌∷◌}
 use lib.ListN.{length, get_or, drop}
 use lib.Dec.{ltb, eqb}
 use borrow.Author.Tests.{lt-ltb, le-ltb, le-leb, eq-eqb, ne_eqb}
+use Rattle.std.specs.Prelude.{Ok, Err}
 use Rattle.rows.specs.declared.row.Row.{Row}
 use Rattle.rows.specs.Table.{words_per_row, Own, row_at, lent}
 use Rattle.rows.specs.Kinds.{kind_reference}
@@ -15,9 +16,8 @@ use Rattle.format.specs.Tree.{Tree, leaf, refer, hold, declare, foreign, damaged
 use Rattle.format.proofs.Layouts.{size_pos, own_at, top_row, top_at}
 use Rattle.rules.specs.Obeys.{Obeys, Stands}
 use Rattle.rules.proofs.Exact.{laid_out}
-use Rattle.walker.specs.declared.step.Step.{Step}
-use Rattle.walker.specs.declared.step.Step.TheVariants.{To, NoStep, BadTable}
-use Rattle.walker.specs.Walk.{standing, start_of, genuine, step_in, step_on, step_along}
+use Rattle.walker.specs.declared.unmoved.Unmoved.TheVariants.{NoStep, BadTable}
+use Rattle.walker.specs.Walk.{Step, standing, start_of, genuine, step_in, step_on, step_along}
 use Rattle.walks.specs.Spots.{Spot, spot, Spots, nil, cons, spot_row, spot_end, spot_rows, added, entry, siblings, declared, children, Way, inward, onward, alongside, entry_of, tree_step, bound_of, step_for, go_on, tree_walk, step_by, go_to, table_walk}
 use Rattle.walks.proofs.Good.{Right, Stood, Before, Good, Goods, Linked, value_fine, children-good, children-linked}
 use Rattle.walks.proofs.Neither.{kind-is}
@@ -55,13 +55,13 @@ module _ (table : List ℕ) (n : ℕ) (s : List ℕ) where
   -- ---- what each step finds
 
   on_told : (xs : Spots) (x : Spot) → Good table n s x → Goods table n s xs → Linked (spot_end x) xs
-      → cond (ltb (spot_end x) (bound_of x xs)) (To (spot_end x) (bound_of x xs)) NoStep ≡ step_for xs
+      → cond (ltb (spot_end x) (bound_of x xs)) (Ok (standing (spot_end x) (bound_of x xs))) (Err NoStep) ≡ step_for xs
   unfolding bound_of Linked Good
   on_told nil x g h l = rw (le-ltb (spot_end x) (spot_end x) (omega arith))
   on_told (cons y ys) x g h l =
       let b = bound_in ys y h.0 h.1 l.1 in
       let o = good-own y h.0 in
-      rw (lt-ltb (spot_end x) (bound_of y ys) (omega (arith, b.0, l.0, o.1))) (ap (λ (r : ℕ). To r (bound_of y ys)) (sym l.0))
+      rw (lt-ltb (spot_end x) (bound_of y ys) (omega (arith, b.0, l.0, o.1))) (ap (λ (r : ℕ). Ok (standing r (bound_of y ys))) (sym l.0))
 
   -- trees under a holder end where it does
   bound_held : (ts : Trees) (row : ℕ) (force : Spots) (x : Spot) → spot_end x ≡ row → bound_of x (siblings ts row force) ≡ row + sizes ts
@@ -92,17 +92,17 @@ module _ (table : List ℕ) (n : ℕ) (s : List ℕ) where
   children-end (spot (damaged o) row force) = refl
 
   in_of : (row : ℕ) (ys : Spots) → Linked (row + 1) ys → Goods table n s ys
-      → cond (ltb (row + 1) (last_end (row + 1) ys)) (To (row + 1) (last_end (row + 1) ys)) NoStep ≡ step_for ys
+      → cond (ltb (row + 1) (last_end (row + 1) ys)) (Ok (standing (row + 1) (last_end (row + 1) ys))) (Err NoStep) ≡ step_for ys
   unfolding Linked Good
   in_of row nil l g = rw (le-ltb (row + 1) (row + 1) (omega arith))
   in_of row (cons y ys) l g =
       let b = bound_in ys y g.0 g.1 l.1 in
       let o = good-own y g.0 in
-      rw (lt-ltb (row + 1) (bound_of y ys) (omega (arith, b.0, o.1, l.0))) (ap (λ (r : ℕ). To r (bound_of y ys)) (sym l.0))
+      rw (lt-ltb (row + 1) (bound_of y ys) (omega (arith, b.0, o.1, l.0))) (ap (λ (r : ℕ). Ok (standing r (bound_of y ys))) (sym l.0))
 
-  in_told : (x : Spot) → Good table n s x → cond (ltb (spot_row x + 1) (spot_end x)) (To (spot_row x + 1) (spot_end x)) NoStep ≡ step_for (children x)
+  in_told : (x : Spot) → Good table n s x → cond (ltb (spot_row x + 1) (spot_end x)) (Ok (standing (spot_row x + 1) (spot_end x))) (Err NoStep) ≡ step_for (children x)
   in_told x g =
-      ap (λ (e : ℕ). cond (ltb (spot_row x + 1) e) (To (spot_row x + 1) e) NoStep) (sym (children-end x))
+      ap (λ (e : ℕ). cond (ltb (spot_row x + 1) e) (Ok (standing (spot_row x + 1) e)) (Err NoStep)) (sym (children-end x))
       ∙ in_of (spot_row x) (children x) (children-linked table n s x) (children-good table n s x g)
 
   -- entry k of those in force, with its row
@@ -114,10 +114,10 @@ module _ (table : List ℕ) (n : ℕ) (s : List ℕ) where
   entry_at (suc k) (cons x xs) row l g b = entry_at k xs row (omega arith) g.1 b.1
 
   abbrev along_row : ℕ → Row → Step
-  along_row row w = cond (eqb w.kind kind_reference) (cond (ltb w.w1 row) (To w.w1 (row_at table w.w1).end) BadTable) NoStep
+  along_row row w = cond (eqb w.kind kind_reference) (cond (ltb w.w1 row) (Ok (standing w.w1 (row_at table w.w1).end)) (Err BadTable)) (Err NoStep)
 
   -- what is no reference leads nowhere
-  along_none : (t : Tree) (row : ℕ) (registry : List ℕ) → Stood table n s t row registry → ((own_at t registry).kind ≡ kind_reference → ⊥) → along_row row (row_at table row) ≡ NoStep
+  along_none : (t : Tree) (row : ℕ) (registry : List ℕ) → Stood table n s t row registry → ((own_at t registry).kind ≡ kind_reference → ⊥) → along_row row (row_at table row) ≡ Err NoStep
   along_none t row registry a never = rw (stood_row t row registry a, ne_eqb (own_at t registry).kind kind_reference never)
 
   along_told : (x : Spot) → Good table n s x → along_row (spot_row x) (row_at table (spot_row x)) ≡ step_for (entry_of x)

@@ -1,13 +1,12 @@
 -- What a walker meets in a tree: the trees below a holder, one behind the other, each with its row and the entries in force there.
 -- Assumes nothing: these are definitions.
-use Rattle.std.specs.Prelude.{ℕ, zero, suc, ◌+◌, ◌≤◌, ◌<◌, cond, List, [], ◌∷◌, length}
+use Rattle.std.specs.Prelude.{ℕ, zero, suc, ◌+◌, ◌≤◌, ◌<◌, cond, List, [], ◌∷◌, length, Ok, Err}
 use Rattle.format.specs.Tree.{Tree, leaf, refer, hold, declare, foreign, damaged, Trees, none, more, size}
 use Rattle.format.specs.Value.{in_foreign}
 use Rattle.walker.specs.declared.standing.Standing.{Standing}
-use Rattle.walker.specs.declared.step.Step.{Step}
-use Rattle.walker.specs.declared.step.Step.TheVariants.{To, NoStep, BadTable}
+use Rattle.walker.specs.declared.unmoved.Unmoved.TheVariants.{NoStep, BadTable}
 use Rattle.payload.specs.declared.part.Part.{Part}
-use Rattle.walker.specs.Walk.{standing, step_in, step_on, step_along}
+use Rattle.walker.specs.Walk.{Step, standing, step_in, step_on, step_along}
 use Rattle.payload.specs.Payload.{has_payload, part}
 
 mutual
@@ -100,8 +99,8 @@ bound_of x (cons y ys) = bound_of y ys
 
 -- the answer for what was found: a row and its bound, or "No such row: 14"
 abbrev pub step_for : Spots → Step
-step_for nil = NoStep
-step_for (cons x xs) = To (spot_row x) (bound_of x xs)
+step_for nil = Err NoStep
+step_for (cons x xs) = Ok (standing (spot_row x) (bound_of x xs))
 
 -- "the standing asked from stays good, and a walk goes on from there"
 abbrev pub go_on : {A : Type 0} → Spots → Spot → Spots → (Spot → Spots → A) → A
@@ -126,9 +125,8 @@ step_by table n onward at = step_on table n at
 step_by table n alongside at = step_along table n at
 
 abbrev pub go_to : Standing → Step → Standing
-go_to at (To row bound) = standing row bound
-go_to at NoStep = at
-go_to at BadTable = at
+go_to at (Ok next) = next
+go_to at (Err why) = at
 
 unfoldable pub table_walk : List ℕ → ℕ → List Way → Standing → List Step
 table_walk table n [] at = []
@@ -140,9 +138,9 @@ table_end table n (w ∷ ws) at = table_end table n ws (go_to at (step_by table 
 
 -- a standing in the table, or 14; never 12
 abbrev pub InTable : ℕ → Step → Type 0
-InTable n (To row bound) = (row < bound) × (bound ≤ n)
-InTable n NoStep = Unit {0}
-InTable n BadTable = ⊥
+InTable n (Ok at) = (at.row < at.bound) × (at.bound ≤ n)
+InTable n (Err NoStep) = Unit {0}
+InTable n (Err BadTable) = ⊥
 
 unfoldable pub AllInTable : ℕ → List Step → Type 0
 AllInTable n [] = Unit {0}

@@ -1,19 +1,21 @@
 -- A body of any size, read from its top byte down and written from its low word up. Assumes nothing.
-use mathlib.Core.Path.{◌≡◌, ◌∙◌, sym, ap, ap₂, refl}
+use mathlib.Core.Path.{◌≡◌, ◌∙◌, sym, ap, ap₂, refl, subst}
 use mathlib.Core.Bool.{Bool, true, false, ◌&&◌}
-use mathlib.Core.List.{List, [], ◌∷◌}
+use mathlib.Core.List.{List, [], ◌∷◌, ◌++◌, append-nil, append_assoc}
 use Prim.Native.Nat.{ℕ, zero, suc, ◌+◌, ◌-◌, ◌*◌, ◌/◌, ◌%◌, ◌^◌, ◌≤◌, ◌<◌}
 use native.Mathlib.Nat.{add-zero, mul_left_comm, mul_comm, mul-sub, mul-le-mul_right, mul-le-mul_left, pow-le-pow_right, zero-lt-suc}
 use native.Mathlib.Omega.{arith}
-use lib.ListN.{length, set, take, drop, get_or, length-drop, drop_of_length-le}
-use lib.Seq.{sets, length-take-le, drop-cons, get_or-take, get_or-drop}
+use lib.ListN.{length, set, take, drop, get_or, length-drop}
+use lib.Seq.{sets, sets-eq, drop-drop, length-take-le}
 use lib.Dec.{leb}
+use borrow.Rule.Slice.PartMut.{put_mid}
+use Rattle.std.specs.Int.{w32, to_le_bytes}
 use borrow.Author.Tests.{le-leb, lt-leb}
 use Rattle.wide.specs.declared.wide.Wide.{Wide}
 use Rattle.wide.specs.Number.{number, bytes_of}
 use Rattle.wide.specs.Words.{wide_end, words, value_of, wide_of}
 use Rattle.wide.specs.Body.{extended, negative, body_value}
-use Rattle.wide.proofs.Numbers.{either, onto, Bytes, pow_step, pow_pos256, onto_number, onto_zero, bytes-all, bytes_take, bytes_drop, bytes_low, bytes_split}
+use Rattle.wide.proofs.Numbers.{either, onto, Bytes, length-bytes_of, pow_step, pow_pos256, onto_number, onto_zero, bytes_low, bytes_split}
 use Rattle.wide.proofs.Wides.{Words, wide_more}
 use Rattle.wide.proofs.Steps.{in_again}
 
@@ -76,56 +78,55 @@ sign : (signed : Bool) (bs : List ℕ) (k : ℕ) → Bytes bs → length bs ≡ 
 sign false bs k h e = refl
 sign true bs k h e = top_bit bs k h e
 
+-- ---- a body that is read from its top byte down: the bytes `rest` are left of bs, those behind them are read
+
+pub record Reading (bs : List ℕ) (f : ℕ) (rest : List ℕ) (w : Wide) : Type 0 where
+  pub passed : List ℕ
+  pub whole : rest ++ passed ≡ bs
+  pub so_far : w ≡ wide_of (onto f passed)
+
+pub read_first : (bs rest : List ℕ) (f : ℕ) (w : Wide) → rest ≡ bs → w ≡ wide_of f → Reading bs f rest w
+read_first bs rest f w h e = record { passed = []; whole = append-nil rest ∙ h; so_far = e }
+
+pub read_next : (bs : List ℕ) (f : ℕ) (rest left : List ℕ) (x : ℕ) (w r : Wide) → Reading bs f rest w → rest ≡ left ++ x ∷ []
+    → x < 256 → r ≡ wide_of (x + 256 * value_of w) → Reading bs f left r
+read_next bs f rest left x w r h e b g =
+    record {
+      passed = x ∷ h.passed;
+      whole = sym (append_assoc left (x ∷ []) h.passed) ∙ ap (λ (l : List ℕ). l ++ h.passed) (sym e) ∙ h.whole;
+      so_far = g ∙ ap (λ (v : Wide). wide_of (x + 256 * value_of v)) h.so_far ∙ in_again (onto f h.passed) x b;
+    }
+
+pub read_last : (bs : List ℕ) (f : ℕ) (rest : List ℕ) (w : Wide) → Reading bs f rest w → length rest ≡ 0 → w ≡ wide_of (onto f bs)
+read_last bs f [] w h e = h.so_far ∙ ap (λ (l : List ℕ). wide_of (onto f l)) h.whole
+read_last bs f (x ∷ rest) w h e = absurd (omega arith)
+
 -- ---- a body that lies in a slice
 
-module _ (s : List ℕ) (at size : ℕ) (low : 1 ≤ size) (high : size ≤ 16) (fits : at + size ≤ length s) where
-  body-length : length (take size (drop at s)) ≡ size
-  body-length = length-take-le size (drop at s) (simp length-drop (omega arith))
+pub body_length : (s : List ℕ) (at size : ℕ) → at + size ≤ length s → length (take size (drop at s)) ≡ size
+body_length s at size fits = length-take-le size (drop at s) (simp length-drop (omega arith))
 
-  pub body_end : (f : ℕ) → onto f (drop size (take size (drop at s))) ≡ f
-  body_end f = ap (onto f) (drop_of_length-le (take size (drop at s)) {i = size} (omega (arith, body-length)))
-
-  body_at : (j : ℕ) → j < size → get_or (take size (drop at s)) j 0 ≡ get_or s (at + j) 0
-  body_at j h = get_or-take size (drop at s) j 0 h ∙ get_or-drop at s j 0
-
-  body-step : (f j : ℕ) → j < size
-      → onto f (drop j (take size (drop at s))) ≡ get_or s (at + j) 0 + 256 * onto f (drop (suc j) (take size (drop at s)))
-  body-step f j h =
-      ap (onto f) (drop-cons (take size (drop at s)) j 0 (omega (arith, body-length)))
-      ∙ ap (λ (b : ℕ). b + 256 * onto f (drop (suc j) (take size (drop at s)))) (body_at j h)
-
-  -- a turn of the loop
-  pub turn : (f i : ℕ) (w r : Wide) → 0 < i → i ≤ size → get_or s (at + (i - 1)) 0 < 256
-      → w ≡ wide_of (onto f (drop i (take size (drop at s))))
-      → r ≡ wide_of (get_or s (at + (i - 1)) 0 + 256 * value_of w)
-      → r ≡ wide_of (onto f (drop (i - 1) (take size (drop at s))))
-  turn f i w r p h b e g =
-      let j : ℕ = i - 1 in
-      let ij : i ≡ suc j = omega arith in
-      let x : ℕ = get_or s (at + j) 0 in
-      g
-      ∙ ap (λ (v : Wide). wide_of (x + 256 * value_of v)) (e ∙ ap (λ (k : ℕ). wide_of (onto f (drop k (take size (drop at s))))) ij)
-      ∙ in_again (onto f (drop (suc j) (take size (drop at s)))) x b
-      ∙ ap wide_of (sym (body-step f j (omega arith)))
-
-  pub body_read : (signed : Bool) → ((i : ℕ) → get_or s i 0 < 256)
-      → wide_of (onto (extended (signed && leb 128 (get_or s (at + (size - 1)) 0)) 0 0) (take size (drop at s))) ≡ wide_of (body_value signed (take size (drop at s)))
-  unfolding body_value
-  body_read signed h =
-      let bs : List ℕ = take size (drop at s) in
-      let e : length bs ≡ suc (size - 1) = omega (arith, body-length) in
-      let t : get_or bs (size - 1) 0 ≡ get_or s (at + (size - 1)) 0 = body_at (size - 1) (omega arith) in
-      ap (λ (b : ℕ). wide_of (onto (extended (signed && leb 128 b) 0 0) bs)) (sym t)
-      ∙ ap (λ (b : Bool). wide_of (onto (extended b 0 0) bs)) (sym (sign signed bs (size - 1) (bytes_take size (drop at s) (bytes_drop at s (bytes-all s h))) e))
-      ∙ filled (negative signed (length bs) (number bs)) bs (omega (arith, body-length))
+pub body_read : (signed : Bool) (bs : List ℕ) (size : ℕ) → length bs ≡ size → 1 ≤ size → size ≤ 16 → Bytes bs
+    → wide_of (onto (extended (signed && leb 128 (get_or bs (size - 1) 0)) 0 0) bs) ≡ wide_of (body_value signed bs)
+unfolding body_value
+body_read signed bs size e low high h =
+    let k : length bs ≡ suc (size - 1) = omega arith in
+    ap (λ (b : Bool). wide_of (onto (extended b 0 0) bs)) (sym (sign signed bs (size - 1) h k))
+    ∙ filled (negative signed (length bs) (number bs)) bs (omega arith)
 
 -- ---- a body that is written: what is left to write completes it
 
-pub write_start : (out : List ℕ) (at size n : ℕ) → sets out (at + 0) (bytes_of (size - 0) n) ≡ sets out at (bytes_of size n)
-write_start out at size n =
-    let p : at + 0 ≡ at = omega arith in
-    let q : size - 0 ≡ size = omega arith in
-    ap₂ (λ (a k : ℕ). sets out a (bytes_of k n)) p q
+-- i words are written: the rest completes it
+pub record Writing (out : List ℕ) (at size : ℕ) (w : Wide) (now : List ℕ) (i : ℕ) (rest : Wide) : Type 0 where
+  pub long : length now ≡ length out
+  pub words_left : Words rest
+  pub same : sets now (at + 4 * i) (bytes_of (size - 4 * i) (value_of rest)) ≡ sets out at (bytes_of size (value_of w))
+
+pub write_first : (out : List ℕ) (at size : ℕ) (w : Wide) → Words w → Writing out at size w out 0 w
+write_first out at size w h =
+    let p : at + 4 * 0 ≡ at = omega arith in
+    let q : size - 4 * 0 ≡ size = omega arith in
+    record { long = refl; words_left = h; same = ap₂ (λ (a k : ℕ). sets out a (bytes_of k (value_of w))) p q }
 
 -- a word of it
 pub put_one : (out : List ℕ) (at count w : ℕ) → count ≡ 1 → set out at (w % 256) ≡ sets out at (bytes_of count w)
@@ -155,23 +156,33 @@ put_four out at count w l n0 n1 n2 n3 =
 pub words_off : (w : Wide) → Words w → Words (words w.w1 w.w2 w.w3 0)
 words_off w h = record { f0 = h.f1; f1 = h.f2; f2 = h.f3; f3 = omega arith }
 
-pub write_turn : (out after t : List ℕ) (at i size : ℕ) (w r : Wide) → 4 < size - i → Words w → after ≡ sets out (at + i) (bytes_of 4 w.w0)
-    → r ≡ words w.w1 w.w2 w.w3 0 → sets out (at + i) (bytes_of (size - i) (value_of w)) ≡ t
-    → sets after (at + (i + 4)) (bytes_of (size - (i + 4)) (value_of r)) ≡ t
-write_turn out after t at i size w r l h ea er e =
-    let k : ℕ = size - (i + 4) in
-    let y : ℕ = w.w1 + 2 ^ 32 * (w.w2 + 2 ^ 32 * w.w3) in
-    let p : at + (i + 4) ≡ suc (suc (suc (suc (at + i)))) = omega arith in
-    let q : k + 4 ≡ size - i = omega arith in
-    let v : value_of r ≡ y = ap value_of er ∙ ap (λ (n : ℕ). w.w1 + 2 ^ 32 * (w.w2 + 2 ^ 32 * n)) (add-zero w.w3) in
-    ap₂ (λ (o : List ℕ) (a : ℕ). sets o a (bytes_of k (value_of r))) ea p
-    ∙ ap (λ (n : ℕ). sets (sets out (at + i) (bytes_of 4 w.w0)) (suc (suc (suc (suc (at + i))))) (bytes_of k n)) v
-    ∙ ap (sets out (at + i)) (sym (bytes_split 4 k w.w0 y h.f0))
-    ∙ ap (λ (x : ℕ). sets out (at + i) (bytes_of x (value_of w))) q
-    ∙ e
+pub write_next : (out : List ℕ) (at size : ℕ) (w : Wide) (now : List ℕ) (i : ℕ) (rest : Wide) (after : List ℕ) (r : Wide)
+    → Writing out at size w now i rest → i < size / 4 → length after ≡ length now → after ≡ sets now (at + 4 * i) (bytes_of 4 rest.w0)
+    → r ≡ words rest.w1 rest.w2 rest.w3 0 → Writing out at size w after (i + 1) r
+write_next out at size w now i rest after r v l n ea er =
+    let k : ℕ = size - 4 * (i + 1) in
+    let y : ℕ = rest.w1 + 2 ^ 32 * (rest.w2 + 2 ^ 32 * rest.w3) in
+    let p : at + 4 * (i + 1) ≡ suc (suc (suc (suc (at + 4 * i)))) = omega arith in
+    let q : k + 4 ≡ size - 4 * i = omega arith in
+    let e : value_of r ≡ y = ap value_of er ∙ ap (λ (n : ℕ). rest.w1 + 2 ^ 32 * (rest.w2 + 2 ^ 32 * n)) (add-zero rest.w3) in
+    record {
+      long = n ∙ v.long;
+      words_left = subst Words (sym er) (words_off rest v.words_left);
+      same = ap₂ (λ (o : List ℕ) (a : ℕ). sets o a (bytes_of k (value_of r))) ea p
+          ∙ ap (λ (n : ℕ). sets (sets now (at + 4 * i) (bytes_of 4 rest.w0)) (suc (suc (suc (suc (at + 4 * i))))) (bytes_of k n)) e
+          ∙ ap (sets now (at + 4 * i)) (sym (bytes_split 4 k rest.w0 y v.words_left.f0))
+          ∙ ap (λ (x : ℕ). sets now (at + 4 * i) (bytes_of x (value_of rest))) q
+          ∙ v.same;
+    }
 
-pub write_end : (out after t : List ℕ) (at i size : ℕ) (w : Wide) → size - i ≤ 4 → after ≡ sets out (at + i) (bytes_of (size - i) w.w0)
-    → sets out (at + i) (bytes_of (size - i) (value_of w)) ≡ t → after ≡ t
-write_end out after t at i size w l ea e =
-    let y : ℕ = w.w1 + 2 ^ 32 * (w.w2 + 2 ^ 32 * w.w3) in
-    ea ∙ ap (sets out (at + i)) (sym (bytes_low (size - i) 4 w.w0 y l)) ∙ e
+pub write_last : (out : List ℕ) (at size : ℕ) (w : Wide) (now : List ℕ) (i : ℕ) (rest : Wide) (after : List ℕ)
+    → Writing out at size w now i rest → i ≡ size / 4 → after ≡ sets now (at + size / 4 * 4) (bytes_of (size % 4) rest.w0)
+    → after ≡ sets out at (bytes_of size (value_of w))
+write_last out at size w now i rest after v e ea =
+    let y : ℕ = rest.w1 + 2 ^ 32 * (rest.w2 + 2 ^ 32 * rest.w3) in
+    let p : size / 4 * 4 ≡ 4 * i = omega arith in
+    let q : size % 4 ≡ size - 4 * i = omega arith in
+    ea
+    ∙ ap₂ (λ (a k : ℕ). sets now (at + a) (bytes_of k rest.w0)) p q
+    ∙ ap (sets now (at + 4 * i)) (sym (bytes_low (size - 4 * i) 4 rest.w0 y (omega arith)))
+    ∙ v.same

@@ -6,7 +6,7 @@ use Prim.Native.Nat.{ℕ, ◌+◌, ◌-◌, ◌*◌, ◌/◌, ◌%◌, ◌^◌, 
 use native.Mathlib.Nat.{mod-lt, mod-eq_of_lt, mod-add-mod, add-mod_right, div-add-mod', mul_comm}
 use native.Mathlib.Omega.{arith}
 use lib.Dec.{ltb, eqb, lit≤}
-use borrow.Author.Tests.{lt-ltb, le-ltb, eq-eqb, ne_eqb, eqb-true, eqb-false}
+use borrow.Author.Tests.{lt-ltb, le-ltb, ne_eqb, eqb-true, eqb-false}
 use Rattle.wide.specs.declared.wide.Wide.{Wide}
 use Rattle.wide.specs.Words.{wide_end, words, value_of, wide_of}
 use Rattle.wide.specs.Family.{Run, behind, has_number}
@@ -45,14 +45,8 @@ behind_zero n =
 
 -- ---- four words whose high three are all the same
 
-pub none_first : (a b c x : ℕ) → (a ≡ x → ⊥) → false ≡ (eqb a x && (eqb b x && eqb c x))
+none_first : (a b c x : ℕ) → (a ≡ x → ⊥) → false ≡ (eqb a x && (eqb b x && eqb c x))
 none_first a b c x h = sym (ap (λ (t : Bool). t && (eqb b x && eqb c x)) (ne_eqb a x h))
-
-pub none_second : (a b c x : ℕ) → a ≡ x → (b ≡ x → ⊥) → false ≡ (eqb a x && (eqb b x && eqb c x))
-none_second a b c x e h = sym (ap₂ (λ (s t : Bool). s && (t && eqb c x)) (eq-eqb a x e) (ne_eqb b x h))
-
-pub all_first : (a b c x : ℕ) → a ≡ x → b ≡ x → eqb c x ≡ (eqb a x && (eqb b x && eqb c x))
-all_first a b c x e h = sym (ap₂ (λ (s t : Bool). s && (t && eqb c x)) (eq-eqb a x e) (eq-eqb b x h))
 
 above_yes : (a b c x : ℕ) → (eqb a x && (eqb b x && eqb c x)) ≡ true → (a ≡ x) × (b ≡ x) × (c ≡ x)
 above_yes a b c x e =

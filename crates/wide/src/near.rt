@@ -9,13 +9,7 @@ use crate::wide::Wide;
 fn above(w: Wide, word: u32) -> bool
     ensures { result ≡ (eqb w.w1 word && (eqb w.w2 word && eqb w.w3 word)) }
 {
-    if w.w1 != word {
-        return false;
-    }
-    if w.w2 != word {
-        return false;
-    }
-    w.w3 == word
+    w.w1 == word && w.w2 == word && w.w3 == word
 }
 
 // Whether the number is one of the last `below` before 0 or of the first `up` from 0 on. The low word is asked first: it alone tells nearly
@@ -41,15 +35,11 @@ pub fn near(below: u32, far: u32) -> Wide
     if far < below {
         return Wide {
             w0: 4294967295 - (below - far - 1),
-            w1: 4294967295,
-            w2: 4294967295,
-            w3: 4294967295,
+            ..Wide::ONES
         };
     }
     Wide {
         w0: far - below,
-        w1: 0,
-        w2: 0,
-        w3: 0,
+        ..Wide::ZERO
     }
 }

@@ -25,7 +25,7 @@ fn passed(n: usize, limit: usize) -> usize
     ensures value { result ≡ cond (leb limit n) 1 0 }
     ensures upper_bound { result ≤ 1 }
 {
-    if limit <= n { 1 } else { 0 }
+    usize::from(limit <= n)
 }
 
 // The place of the shortest unsigned body of 64 bits at most: how many sizes are too short, since a branch for each would be guessed wrong.

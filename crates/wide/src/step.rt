@@ -33,21 +33,7 @@ pub fn word_off(w: Wide) -> Wide
 pub fn filled(ones: bool) -> Wide
     ensures { result ≡ wide_of (extended ones 0 0) }
 {
-    if ones {
-        Wide {
-            w0: 4294967295,
-            w1: 4294967295,
-            w2: 4294967295,
-            w3: 4294967295,
-        }
-    } else {
-        Wide {
-            w0: 0,
-            w1: 0,
-            w2: 0,
-            w3: 0,
-        }
-    }
+    if ones { Wide::ONES } else { Wide::ZERO }
 }
 
 // Twice the number; the highest bit falls out.
@@ -66,10 +52,7 @@ pub fn doubled(w: Wide) -> Wide
 fn turned(x: u32, top: u32) -> u32
     ensures { result ≡ cond (ltb top 2147483648) x (4294967295 - x) }
 {
-    if top < 2147483648 {
-        return x;
-    }
-    4294967295 - x
+    if top < 2147483648 { x } else { !x }
 }
 
 // The number, or its complement where its highest bit is set: word by word, so that no branch depends on the sign.

@@ -8,18 +8,18 @@ use native.Mathlib.Omega.{arith}
 use lib.ListN.{length, get_or, drop}
 use lib.Dec.{leb}
 use borrow.Author.Tests.{le-leb, lt-leb}
+use Rattle.std.specs.Prelude.{Result, Ok, Err}
+use Rattle.rows.specs.declared.bad_table.BadTable.{BadTable}
 use Rattle.rows.specs.Table.{words_per_row, row_at, limit}
 use Rattle.format.specs.Tree.{Tree}
 use Rattle.rules.specs.Grow.{rules_hold}
 use Rattle.rules.specs.Obeys.{Stands}
 use Rattle.rules.proofs.Exact.{yes_stands, laid_out, stands_grows}
-use Rattle.checker.specs.declared.checked.Checked.{Checked}
-use Rattle.checker.specs.declared.checked.Checked.TheVariants as checks
-use Rattle.checker.specs.Checked.{checked}
+use Rattle.checker.specs.Checked.{bad_table, checked}
 use Rattle.checker.proofs.Answers.{yes_holds}
 use Rattle.encode.specs.Encode.{encode}
 use Rattle.spell.specs.Inner.{Inside}
-use Rattle.writer.specs.declared.written.Written.TheVariants.{Done, BadTable, TooLarge, NoRoom}
+use Rattle.writer.specs.declared.unwritten.Unwritten.TheVariants as refused
 use Rattle.writer.specs.Written.{encoded, document_of, written, output_after}
 use Rattle.writer.specs.Inner.{Spells, Spelt, Long, RoomFor, FrontLaid}
 use Rattle.writer.proofs.Spelling.{inside_at, spelled-few}
@@ -27,15 +27,15 @@ use Rattle.writer.proofs.Trees.{tree_spells}
 
 -- ---- the check
 
-module _ (depth : ℕ) (table : List ℕ) (n : ℕ) (s : List ℕ) (c : Checked) (e : c ≡ checked depth table n s) where
-  pub checked_yes : (rows : ℕ) → c ≡ checks.Right rows → rules_hold depth table n s ≡ true
+module _ (depth : ℕ) (table : List ℕ) (n : ℕ) (s : List ℕ) (c : Result ℕ BadTable) (e : c ≡ checked depth table n s) where
+  pub checked_yes : (rows : ℕ) → c ≡ Ok rows → rules_hold depth table n s ≡ true
   checked_yes rows q = yes_holds depth table n s rows (sym e ∙ q)
 
-  pub checked_no : c ≡ checks.BadTable → rules_hold depth table n s ≡ false
+  pub checked_no : c ≡ Err bad_table → rules_hold depth table n s ≡ false
   unfolding checked
   checked_no q = of (rules_hold depth table n s) (sym e ∙ q)
     where
-      of : (b : Bool) → cond b (checks.Right n) checks.BadTable ≡ checks.BadTable → b ≡ false
+      of : (b : Bool) → cond b (Ok n) (Err bad_table) ≡ Err bad_table → b ≡ false
       of true r = absurd (let z : ◌≡◌ {A = ℕ} 0 1 = cc in omega arith)
       of false r = refl
 
@@ -74,35 +74,35 @@ module _ (depth : ℕ) (table : List ℕ) (n : ℕ) (s : List ℕ) where
       exact : needed ≡ length (document_of depth table n s)
       exact = long.long s (document_of depth table n s) spells
 
-      pub too_large : limit < needed → (TooLarge needed ≡ written depth table n s (length out)) × (out ≡ output_after depth table n s out)
+      pub too_large : limit < needed → (Err (refused.TooLarge needed) ≡ written depth table n s (length out)) × (out ≡ output_after depth table n s out)
       unfolding written output_after
       too_large h =
           let D : ℕ = length (document_of depth table n s) in
           let l : leb D limit ≡ false = lt-leb D limit (omega (arith, exact)) in
-          (ap TooLarge exact ∙ rw (yes, l), rw (yes, l))
+          (ap (λ (x : ℕ). Err (refused.TooLarge x)) exact ∙ rw (yes, l), rw (yes, l))
 
-      pub no_room : needed ≤ limit → length out < needed → (NoRoom needed ≡ written depth table n s (length out)) × (out ≡ output_after depth table n s out)
+      pub no_room : needed ≤ limit → length out < needed → (Err (refused.NoRoom needed) ≡ written depth table n s (length out)) × (out ≡ output_after depth table n s out)
       unfolding written output_after
       no_room h r =
           let D : ℕ = length (document_of depth table n s) in
           let l : leb D limit ≡ true = le-leb D limit (omega (arith, exact)) in
           let m : leb D (length out) ≡ false = lt-leb D (length out) (omega (arith, exact)) in
-          (ap NoRoom exact ∙ rw (yes, l, m), rw (yes, l, m))
+          (ap (λ (x : ℕ). Err (refused.NoRoom x)) exact ∙ rw (yes, l, m), rw (yes, l, m))
 
       pub yes_fits : needed ≤ length out → RoomFor table s n (length out)
       yes_fits r = record { rows-lent = stands.1.rows-lent; few = stands.1.few; short = stands.1.short; bytes = document_of depth table n s; spells = spells; fits = omega (arith, exact) }
 
       pub done : needed ≤ limit → needed ≤ length out → (after : List ℕ) → FrontLaid table s n out after
-          → (Done needed ≡ written depth table n s (length out)) × (after ≡ output_after depth table n s out)
+          → (Ok needed ≡ written depth table n s (length out)) × (after ≡ output_after depth table n s out)
       unfolding written output_after
       done h r after g =
           let D : ℕ = length (document_of depth table n s) in
           let l : leb D limit ≡ true = le-leb D limit (omega (arith, exact)) in
           let m : leb D (length out) ≡ true = le-leb D (length out) (omega (arith, exact)) in
-          (ap Done exact ∙ rw (yes, l, m), g.laid (document_of depth table n s) spells ∙ rw (yes, l, m))
+          (ap Ok exact ∙ rw (yes, l, m), g.laid (document_of depth table n s) spells ∙ rw (yes, l, m))
 
   -- ---- one that does not
 
-  pub bad-table : rules_hold depth table n s ≡ false → (out : List ℕ) → (BadTable ≡ written depth table n s (length out)) × (out ≡ output_after depth table n s out)
+  pub bad-table : rules_hold depth table n s ≡ false → (out : List ℕ) → (Err refused.BadTable ≡ written depth table n s (length out)) × (out ≡ output_after depth table n s out)
   unfolding written output_after
   bad-table e out = (rw e, rw e)

@@ -9,12 +9,10 @@ pub fn write_rows(table: &[u32], n: usize, data: &[u8], out: &mut [u8])
     requires { RoomFor table.now «data».now n (length out.old) }
     ensures { FrontLaid table.now «data».now n out.old out.new }
 {
-    let mut row = 0;
     let mut at = 0;
-    while row < n {
+    for row in 0..n {
         let w = rows::row_at(table, row);
         let size = sizes::told_size(table, row, w);
         at = spell::put_row(out, at, data, w, size);
-        row += 1;
     }
 }

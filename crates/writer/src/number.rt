@@ -1,31 +1,31 @@
-// The paper's numbers for an answer.
-ghost use Rattle.std.specs.Prelude.{◌≡◌};
-ghost use Rattle.writer.specs.Written.{written_number, written_beside};
+// The paper's numbers for a refusal.
+ghost use Rattle.writer.specs.Unwritten.{unwritten_number, unwritten_beside, unwritten-small};
 
-use crate::written::Written;
+use crate::unwritten::Unwritten;
+use numbers::{Beside, Numbered};
 
-impl Written {
-    // 0, or the refusal's number.
-    pub fn number(self) -> u32
-        ensures { result ≡ written_number self }
-    {
+impl Numbered for Unwritten {
+    ghost number_of = { unwritten_number };
+
+    ghost small = { unwritten-small };
+
+    fn number(self) -> u32 {
         match self {
-            Written::Done { used: _ } => 0,
-            Written::BadTable => 12,
-            Written::TooLarge { needed: _ } => 1,
-            Written::NoRoom { needed: _ } => 13,
+            Unwritten::BadTable => 12,
+            Unwritten::TooLarge { needed: _ } => 1,
+            Unwritten::NoRoom { needed: _ } => 13,
         }
     }
+}
 
-    // The bytes written, or needed.
-    pub fn beside(self) -> u64
-        ensures { result ≡ written_beside self }
-    {
+impl Beside for Unwritten {
+    ghost beside_of = { unwritten_beside };
+
+    // The bytes needed.
+    fn beside(self) -> usize {
         match self {
-            Written::Done { used } => used,
-            Written::BadTable => 0,
-            Written::TooLarge { needed } => needed,
-            Written::NoRoom { needed } => needed,
+            Unwritten::BadTable => 0,
+            Unwritten::TooLarge { needed } | Unwritten::NoRoom { needed } => needed,
         }
     }
 }

@@ -30,6 +30,7 @@ pub fn size_children(table: &[u32], row: usize, stop: usize) -> usize
 {
     let mut here = row;
     let mut sum = 0;
+    // Not a range: the next row is where this one ends.
     while here < stop {
         sum += size_row(table, here);
         here = rows::number(rows::end_at(table, here));

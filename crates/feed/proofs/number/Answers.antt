@@ -9,6 +9,6 @@ returns c =
     let a = c.args in
     let p = c.requires in
     let byte : (i : ℕ) → get_or a.s.now i 0 < 256 = λ i. (c.type_inv.s i).fits in record {
-      value = number_is a.s.now a.at a.size p.1 p.2 byte c.read_body-w.result c.read_body-w.ensures;
-      upper_bound = number-low a.s.now a.at a.size p.1 p.2 byte c.read_body-w.result c.read_body-w.ensures;
+      value = number_is a.s.now a.at a.size p.1 p.2 byte c.read_body.result c.read_body.ensures;
+      upper_bound = number-low a.s.now a.at a.size p.1 p.2 byte c.read_body.result c.read_body.ensures;
     }

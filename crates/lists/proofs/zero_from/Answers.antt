@@ -1,30 +1,11 @@
--- `lists::zero_from` meets its contract. The invariant: zeroing what is left, from `i` on, gives what zeroing the whole gives. Assumes nothing.
-use mathlib.Core.Path.{refl, sym, ap, ◌∙◌}
-use native.Mathlib.Omega.{arith}
-use lib.ListN.{length, length-set}
-use Rattle.lists.proofs.Zeros.{length-zeroed, zeroed_out, zeroed-set}
+-- `lists::zero_from` meets its contract. Assumes nothing.
+use mathlib.Core.Path.{sym}
+use borrow.Author.Rules.{rules}
+use Rattle.lists.proofs.Zeros.{zeroed_out, zeroed_laid}
 use Rattle.lists.proofs.zero_from.Goals as goal
 
-pub loop-i-init : goal.loop-i-init
-loop-i-init c = refl
+pub returns-then-from-table : goal.returns-then-from-table
+returns-then-from-table c = let laid = c.fill.ensures.after (λ y e. e) in search (zeroed_laid, rules)
 
-pub offset_bounds-table-i : goal.offset_bounds-table-i
-offset_bounds-table-i c = omega (arith, simp length-zeroed at (ap length c.loop-i.invariant))
-
-pub bounds-table-i : goal.bounds-table-i
-bounds-table-i c = omega arith
-
-pub overflow_add-i : goal.overflow_add-i
-overflow_add-i c = omega (arith, simp length-zeroed at (ap length c.loop-i.invariant))
-
-pub loop-i-smaller : goal.loop-i-smaller
-loop-i-smaller c = simp length-set (omega arith)
-
-pub loop-i-preserved : goal.loop-i-preserved
-loop-i-preserved c = zeroed-set c.loop-i.table c.loop-i.i c.loop-i-test.true ∙ c.loop-i.invariant
-
-pub shape_of-table : goal.shape_of-table
-shape_of-table c = simp length-zeroed at (ap length c.loop-i.invariant)
-
-pub returns : goal.returns
-returns c = sym (zeroed_out c.loop-i.i c.loop-i.table c.loop-i-test.false) ∙ c.loop-i.invariant
+pub returns-else-from-table : goal.returns-else-from-table
+returns-else-from-table c = sym (zeroed_out c.args.from c.args.table.now c.if-from-table.false)

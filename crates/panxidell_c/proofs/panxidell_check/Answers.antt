@@ -1,10 +1,10 @@
 -- `panxidell_c::panxidell_check` meets its contract. Assumes nothing.
-use Rattle.packing.proofs.Same.{checked_same}
+use Rattle.packing.proofs.Packs.{checked-packed}
 use Rattle.bounds.proofs.Bounds.{checked-beside}
 use Rattle.panxidell_c.proofs.panxidell_check.Goals as goal
 
-pub checked-requires : goal.checked-requires
-checked-requires c = search checked-beside
+pub answer-requires : goal.answer-requires
+answer-requires c = search checked-beside
 
 pub returns : goal.returns
-returns c = search checked_same
+returns c = search checked-packed

@@ -1,11 +1,11 @@
 -- `panxidell_c::panxidell_write_unsigned` meets its contract. Assumes nothing.
 use borrow.Author.Rules.{rules}
-use Rattle.packing.proofs.Same.{coded_same}
+use Rattle.packing.proofs.Packs.{coded-packed}
 use Rattle.bounds.proofs.Bounds.{unsigned-few}
 use Rattle.panxidell_c.proofs.panxidell_write_unsigned.Goals as goal
 
-pub coded-requires : goal.coded-requires
-coded-requires c = search unsigned-few
+pub answer-requires : goal.answer-requires
+answer-requires c = search unsigned-few
 
 pub returns : goal.returns
-returns c = record { value = search coded_same; out_after = search rules }
+returns c = record { value = search coded-packed; out_after = search rules }

@@ -1,5 +1,6 @@
 -- `writer::write_within` meets its contract. Assumes nothing.
 use borrow.Author.Rules.{rules}
+use Rattle.std.proofs.lemmas.Result.{err_from_is_err_and}
 use Rattle.writer.proofs.Asks.{checked_yes, checked_no, yes_spelt, too_large, no_room, yes_fits, done, bad-table}
 use Rattle.writer.proofs.write_within.Goals as goal
 
@@ -19,12 +20,13 @@ returns-then-out-needed c =
 pub write_rows-requires : goal.write_rows-requires
 write_rows-requires c = yes_fits c.args.depth c.args.table.now c.args.n c.args.«data».now (search (checked_yes, rules)) c.size_children-needed.result c.size_children-needed.ensures c.args.out.now c.if-out-needed.false
 
-pub returns-else-out-needed : goal.returns-else-out-needed
-returns-else-out-needed c =
+pub returns : goal.returns
+returns c =
     let r = done c.args.depth c.args.table.now c.args.n c.args.«data».now (search (checked_yes, rules)) c.size_children-needed.result c.size_children-needed.ensures c.args.out.now c.if-needed-gt-LIMIT.false c.if-out-needed.false c.write_rows.new.out c.write_rows.ensures in
     record { value = r.0; out_after = r.1 }
 
-pub returns-in-BadTable : goal.returns-in-BadTable
-returns-in-BadTable c =
+pub returns-in_err-check_within : goal.returns-in_err-check_within
+returns-in_err-check_within c =
+    let p = err_from_is_err_and c.from_residual.result c.from_residual.ensures.1 in
     let r = bad-table c.args.depth c.args.table.now c.args.n c.args.«data».now (search (checked_no, rules)) c.args.out.now in
-    record { value = r.0; out_after = r.1 }
+    record { value = rw (p.1, p.2) r.0; out_after = r.1 }

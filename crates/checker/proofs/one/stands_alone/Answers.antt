@@ -6,7 +6,7 @@ pub returns-then-n-row : goal.returns-then-n-row
 returns-then-n-row c = search alone_out
 
 pub returns-then-number-row : goal.returns-then-number-row
-returns-then-number-row c = search alone_elsewhere
+returns-then-number-row c = search alone_in
 
-pub returns : goal.returns
-returns c = search alone_in
+pub returns-else-number-row : goal.returns-else-number-row
+returns-else-number-row c = search alone_elsewhere

@@ -3,6 +3,7 @@
 use borrow.Author.Rules.{rules}
 use Rattle.checker.proofs.Checks.{alone-fits, child-alone, child_asks, child-based, child_key, child-value, damaged-inside, declared_broken, declared_until, entries_ask, entries-based, going_all, going_first, going_next, going_broken, going_ready, hold_asks, hold-based, own_asks, own-based, own_under, row-bad, row-damaged, row-declare, row-hold, row-leaf, row-refer, row-whole, ready_few, ready_lent, ready_room, value_deep, value-based, value_in, value_out, under, whole-few}
 use Rattle.registry.proofs.Walks.{based_fewer}
+use mathlib.Core.Logic.{inl, inr}
 use Rattle.checker.proofs.value.+checking.Goals as goal
 
 pub check_child-returns-then-is_key : goal.check_child-returns-then-is_key
@@ -26,32 +27,32 @@ check_child-returns t c = search child-value
 pub check_children-loop-i-init : goal.check_children-loop-i-init
 check_children-loop-i-init t c = search going_first
 
-pub check_children-check_child-g-requires : goal.check_children-check_child-g-requires
-check_children-check_child-g-requires t c = (search rules, (search going_ready, search child-based, search rules))
+pub check_children-check_child-requires : goal.check_children-check_child-requires
+check_children-check_child-requires t c = (search rules, (search going_ready, search child-based, search rules))
 
 pub check_children-loop-i-preserved : goal.check_children-loop-i-preserved
-check_children-loop-i-preserved t c = search going_next
+check_children-loop-i-preserved t c = search (going_next, c.in_ok-here.was)
 
-pub check_children-returns-in-Broken : goal.check_children-returns-in-Broken
-check_children-returns-in-Broken t c = search going_broken
+pub check_children-returns-in_err-here : goal.check_children-returns-in_err-here
+check_children-returns-in_err-here t c = rw c.from_residual.ensures (search (going_broken, c.in_err-here.was))
 
 pub check_children-returns : goal.check_children-returns
 check_children-returns t c = search going_all
 
-pub check_declared-check_children-es-requires : goal.check_declared-check_children-es-requires
-check_declared-check_children-es-requires t c = (search rules, (search entries_ask, search entries-based, search rules))
+pub check_declared-check_children-requires : goal.check_declared-check_children-requires
+check_declared-check_children-requires t c = (search rules, (search entries_ask, search entries-based, search rules))
 
 pub check_declared-base_of-inside-requires : goal.check_declared-base_of-inside-requires
-check_declared-base_of-inside-requires t c = (search rules, search own_under)
+check_declared-base_of-inside-requires t c = (search rules, search (own_under, c.in_ok-next.was))
 
 pub check_declared-check_value-requires : goal.check_declared-check_value-requires
-check_declared-check_value-requires t c = (search rules, (search own_asks, search own-based, search rules))
+check_declared-check_value-requires t c = (search rules, (search (own_asks, c.in_ok-next.was), search (own-based, c.in_ok-next.was), search rules))
 
-pub check_declared-returns-in-Until : goal.check_declared-returns-in-Until
-check_declared-returns-in-Until t c = search declared_until
+pub check_declared-returns : goal.check_declared-returns
+check_declared-returns t c = search (declared_until, c.in_ok-next.was)
 
-pub check_declared-returns-in-Broken : goal.check_declared-returns-in-Broken
-check_declared-returns-in-Broken t c = search declared_broken
+pub check_declared-returns-in_err-next : goal.check_declared-returns-in_err-next
+check_declared-returns-in_err-next t c = rw c.from_residual.ensures (search (declared_broken, c.in_err-next.was))
 
 pub check_row-check_reference-requires : goal.check_row-check_reference-requires
 check_row-check_reference-requires t c = (search ready_lent, search rules, search rules, search rules)
@@ -87,10 +88,7 @@ pub check_row-returns-in-Damaged : goal.check_row-returns-in-Damaged
 check_row-returns-in-Damaged t c = search row-damaged
 
 pub check_value-returns-then-levels-eq0 : goal.check_value-returns-then-levels-eq0
-check_value-returns-then-levels-eq0 t c = search value_deep
-
-pub check_value-returns-then-n-row : goal.check_value-returns-then-n-row
-check_value-returns-then-n-row t c = search value_out
+check_value-returns-then-levels-eq0 t c = elim c.then-levels-eq0.either [ inl h ↦ search value_deep | inr h ↦ search value_out ]
 
 pub check_value-returns : goal.check_value-returns
 check_value-returns t c = search value_in

@@ -1,6 +1,6 @@
 -- `checker::value`: check_value, check_child and the functions between them meet their contracts. The measure is the levels left, and within a
 -- level the way from a row to its children to one child. A law of Checks answers each way out. Assumes nothing.
-use Prim.Native.Nat.{◌+◌, ◌*◌, ◌-◌}
+use Prim.Native.Nat.{◌+◌, ◌*◌}
 use Rattle.checker.proofs.Checks.{Going}
 use Rattle.registry.specs.Inner.{first_in}
 use Rattle.checker.proofs.value.+checking.Given as goal
@@ -14,9 +14,6 @@ decreases-check_children l = 5 * l.levels + 2
 abbrev pub invariant-check_children-loop-i : goal.invariant-check_children-loop-i
 invariant-check_children-loop-i l =
     Going l.levels l.table l.n l.s (first_in l.base) l.around l.children l.count l.row l.i l.here
-
-abbrev pub decreases-check_children-loop-i : goal.decreases-check_children-loop-i
-decreases-check_children-loop-i l = l.count - l.i
 
 abbrev pub decreases-check_declared : goal.decreases-check_declared
 decreases-check_declared l = 5 * l.levels + 3

@@ -4,6 +4,7 @@ use borrow.Author.Rules.{rules}
 use Rattle.format.proofs.Heads.{declare_within, hold-few, hold_within}
 use Rattle.measure.proofs.Measures.{all_fit, child_key, child-value, children-low, children_stop, declare-few, declare-low, declare_pos, declare-right, declare-wrong, entry-wrong, foreign-inside, foreign_pos, frame_few, frame_right, frame_wrong, hold_pos, hold-right, hold-wrong, holder_few, kept-all, kept-few, kept-first, kept-fits, kept_low, kept_next, kept-one, kept_plus, kept-wrong, leaf-low, refer-low, refuse_low, row_fits, rows_fit, value-declare, value_deep, value-foreign, value-hold, value-leaf, value_no_entry, value-refer, value_refuse}
 use Rattle.measure.proofs.value.+measuring.Goals as goal
+use Rattle.measure.proofs.value.+measuring.Goals.{measure_children-then-next-eq0+else-f-ge-WRONG, measure_children-else-next-eq0}
 
 pub measure_child-returns-then-is_key : goal.measure_child-returns-then-is_key
 measure_child-returns-then-is_key t c = search child_key
@@ -20,14 +21,15 @@ measure_children-returns-then-f-ge-WRONG t c = search kept-wrong
 pub measure_children-overflow_add-rows : goal.measure_children-overflow_add-rows
 measure_children-overflow_add-rows t c = search kept-fits
 
-pub measure_children-loop-i-preserved-then-next-eq0 : goal.measure_children-loop-i-preserved-then-next-eq0
-measure_children-loop-i-preserved-then-next-eq0 t c = search kept_next
-
-pub measure_children-overflow_add-rows-in-loop-i : goal.measure_children-overflow_add-rows-in-loop-i
-measure_children-overflow_add-rows-in-loop-i t c = search kept_plus
+pub measure_children-overflow_add-rows-else-next-eq0 : goal.measure_children-overflow_add-rows-else-next-eq0
+measure_children-overflow_add-rows-else-next-eq0 t c = search kept_plus
 
 pub measure_children-loop-i-preserved : goal.measure_children-loop-i-preserved
-measure_children-loop-i-preserved t c = search kept-one
+measure_children-loop-i-preserved t c =
+    elim c.if-next-eq0.branch [
+      | measure_children-then-next-eq0+else-f-ge-WRONG w ↦ rw (w.rows-is, w.place-is, w.broken-is) (search kept_next)
+      | measure_children-else-next-eq0 w ↦ rw (w.rows-is, w.place-is, w.broken-is) (search kept-one)
+    ]
 
 pub measure_children-right-requires : goal.measure_children-right-requires
 measure_children-right-requires t c = search (rules, kept_low, kept-few)
@@ -92,8 +94,8 @@ measure_value-right-requires-then-number-around t c = search (rules, refer-low)
 pub measure_value-returns-then-number-around : goal.measure_value-returns-then-number-around
 measure_value-returns-then-number-around t c = search value-refer
 
-pub measure_value-wrong-requires-in-Refuse : goal.measure_value-wrong-requires-in-Refuse
-measure_value-wrong-requires-in-Refuse t c = search (rules, refuse_low)
+pub measure_value-wrong-requires-in-Err : goal.measure_value-wrong-requires-in-Err
+measure_value-wrong-requires-in-Err t c = search (rules, refuse_low)
 
 pub measure_value-measure_hold-requires : goal.measure_value-measure_hold-requires
 measure_value-measure_hold-requires t c = search (rules, hold_pos, hold_within, hold-few)
@@ -110,8 +112,8 @@ measure_value-returns-in-Leaf t c = search value-leaf
 pub measure_value-returns-else-number-around : goal.measure_value-returns-else-number-around
 measure_value-returns-else-number-around t c = search value_no_entry
 
-pub measure_value-returns-in-Refuse : goal.measure_value-returns-in-Refuse
-measure_value-returns-in-Refuse t c = search value_refuse
+pub measure_value-returns-in-Err : goal.measure_value-returns-in-Err
+measure_value-returns-in-Err t c = search value_refuse
 
 pub measure_value-returns-in-Hold : goal.measure_value-returns-in-Hold
 measure_value-returns-in-Hold t c = search value-hold

@@ -1,6 +1,6 @@
 -- `measure::value`: measure_value, measure_child and the functions between them meet their contracts. The measure is the levels left, and within a
 -- level the way from a holder to its children to one child. A law of Measures answers each way out. Assumes nothing.
-use Prim.Native.Nat.{◌+◌, ◌*◌, ◌-◌}
+use Prim.Native.Nat.{◌+◌, ◌*◌}
 use Rattle.format.specs.Value.{value}
 use Rattle.measure.proofs.Measures.{Kept}
 use Rattle.measure.proofs.value.+measuring.Given as goal
@@ -14,10 +14,6 @@ decreases-measure_children l = 4 * l.levels + 2
 abbrev pub invariant-measure_children-loop-i : goal.invariant-measure_children-loop-i
 invariant-measure_children-loop-i l =
     Kept (value l.levels l.s) l.children l.s l.around l.count l.at l.stop l.i l.rows l.place l.broken
-
-abbrev pub decreases-measure_children-loop-i : goal.decreases-measure_children-loop-i
-decreases-measure_children-loop-i l =
-    l.count - l.i
 
 abbrev pub decreases-measure_declared : goal.decreases-measure_declared
 decreases-measure_declared l = 4 * l.levels + 3

@@ -4,26 +4,26 @@ use Rattle.encode.specs.Encode.{float_marker}
 use borrow.Author.Tests.{eq-eqb, ne_eqb}
 use Rattle.plan.proofs.leads.float_marker.Goals as goal
 
-pub returns-then-size-eq2 : goal.returns-then-size-eq2
+pub returns-in-2 : goal.returns-in-2
 unfolding float_marker
-returns-then-size-eq2 c = search (rules, eq-eqb, ne_eqb)
+returns-in-2 c = search (rules, eq-eqb, ne_eqb)
 
-pub returns-then-size-eq4 : goal.returns-then-size-eq4
+pub returns-in-4 : goal.returns-in-4
 unfolding float_marker
-returns-then-size-eq4 c = search (rules, eq-eqb, ne_eqb)
+returns-in-4 c = search (rules, eq-eqb, ne_eqb)
 
-pub returns-then-size-eq8 : goal.returns-then-size-eq8
+pub returns-in-8 : goal.returns-in-8
 unfolding float_marker
-returns-then-size-eq8 c = search (rules, eq-eqb, ne_eqb)
+returns-in-8 c = search (rules, eq-eqb, ne_eqb)
 
-pub returns-then-size-eq16 : goal.returns-then-size-eq16
+pub returns-in-16 : goal.returns-in-16
 unfolding float_marker
-returns-then-size-eq16 c = search (rules, eq-eqb, ne_eqb)
+returns-in-16 c = search (rules, eq-eqb, ne_eqb)
 
-pub returns-then-size-eq32 : goal.returns-then-size-eq32
+pub returns-in-32 : goal.returns-in-32
 unfolding float_marker
-returns-then-size-eq32 c = search (rules, eq-eqb, ne_eqb)
+returns-in-32 c = search (rules, eq-eqb, ne_eqb)
 
-pub returns : goal.returns
+pub returns-in_default : goal.returns-in_default
 unfolding float_marker
-returns c = search (rules, eq-eqb, ne_eqb)
+returns-in_default c = let d = c.in_default in search (rules, eq-eqb, ne_eqb)

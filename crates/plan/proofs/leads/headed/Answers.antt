@@ -7,17 +7,17 @@ use Rattle.plan.proofs.leads.headed.Goals as goal
 pub overflow_sub-n : goal.overflow_sub-n
 overflow_sub-n c =
     let a = c.args in
-    from_low a.low a.count a.from a.marks a.first a.second a.n c.requires (search rules) c.is_alone.result c.is_alone.ensures c.if-is_alone.true
+    from_low a.low a.count a.from a.marks a.n c.requires (search rules) c.is_alone.result c.is_alone.ensures c.if-is_alone.true
 
 pub overflow_add-low : goal.overflow_add-low
 overflow_add-low c =
     let a = c.args in
-    omega (arith, lead_byte a.low a.count a.from a.marks a.first a.second a.n c.requires (search rules) c.is_alone.result c.is_alone.ensures c.if-is_alone.true)
+    omega (arith, lead_byte a.low a.count a.from a.marks a.n c.requires (search rules) c.is_alone.result c.is_alone.ensures c.if-is_alone.true)
 
 pub overflow_cast-low-then-is_alone : goal.overflow_cast-low-then-is_alone
 overflow_cast-low-then-is_alone c =
     let a = c.args in
-    omega (arith, lead_byte a.low a.count a.from a.marks a.first a.second a.n c.requires (search rules) c.is_alone.result c.is_alone.ensures c.if-is_alone.true)
+    omega (arith, lead_byte a.low a.count a.from a.marks a.n c.requires (search rules) c.is_alone.result c.is_alone.ensures c.if-is_alone.true)
 
 pub returns-then-is_alone : goal.returns-then-is_alone
 returns-then-is_alone c = search (alone_plan, rules)
@@ -28,17 +28,17 @@ returns-then-n-lt248 c = search (direct_plan, rules)
 pub overflow_add-result : goal.overflow_add-result
 overflow_add-result c =
     let a = c.args in
-    omega (arith, rank-small a.n c.wide_of-value.result c.rank_of-rank.result (search rules) c.wide_of-value.ensures c.rank_of-rank.ensures)
+    omega (arith, rank-small a.n c.from-value.result c.rank_of-rank.result (search rules) c.from-value.ensures c.rank_of-rank.ensures)
 
 pub overflow_cast-result-2 : goal.overflow_cast-result-2
 overflow_cast-result-2 c =
     let a = c.args in
-    omega (arith, rank-small a.n c.wide_of-value.result c.rank_of-rank.result (search rules) c.wide_of-value.ensures c.rank_of-rank.ensures)
+    omega (arith, rank-small a.n c.from-value.result c.rank_of-rank.result (search rules) c.from-value.ensures c.rank_of-rank.ensures)
 
 pub size_at-requires : goal.size_at-requires
 size_at-requires c =
     let a = c.args in
-    rank-small a.n c.wide_of-value.result c.rank_of-rank.result (search rules) c.wide_of-value.ensures c.rank_of-rank.ensures
+    rank-small a.n c.from-value.result c.rank_of-rank.result (search rules) c.from-value.ensures c.rank_of-rank.ensures
 
 pub returns : goal.returns
 returns c = search (body_plan, rules)

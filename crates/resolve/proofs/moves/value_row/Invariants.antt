@@ -1,9 +1,8 @@
 -- `resolve::moves::value_row` meets its contract. Assumes nothing.
-use Rattle.resolve.proofs.Moving.{Past}
+use Rattle.std.proofs.Common.{◌≡◌, ◌-◌}
+use Rattle.resolve.specs.Resolve.{value_row}
 use Rattle.resolve.proofs.moves.value_row.Given as goal
 
-abbrev pub invariant-loop-left : goal.invariant-loop-left
-invariant-loop-left l = Past l.table l.n l.end l.entries l.row l.left l.at
-
-abbrev pub decreases-loop-left : goal.decreases-loop-left
-decreases-loop-left l = l.left
+-- the entries that are left, from there on, lead to the same value
+abbrev pub invariant-loop : goal.invariant-loop
+invariant-loop l = value_row l.table l.n l.end (l.entries - l.counter) l.at ≡ value_row l.table l.n l.end l.entries l.row

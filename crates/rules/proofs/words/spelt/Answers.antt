@@ -1,7 +1,5 @@
 -- `rules::words::spelt` meets its contract. Assumes nothing.
-use Rattle.rules.specs.Shape.{spelt}
 use Rattle.rules.proofs.Judged.{part_within, spelt_as}
-use Rattle.lists.proofs.Tests.{and_no}
 use Rattle.rules.proofs.words.spelt.Goals as goal
 
 pub slice_bounds-is_well_formed-end : goal.slice_bounds-is_well_formed-end
@@ -9,7 +7,3 @@ slice_bounds-is_well_formed-end c = search part_within
 
 pub returns-then-span : goal.returns-then-span
 returns-then-span c = search spelt_as
-
-pub returns : goal.returns
-unfolding spelt
-returns c = search and_no

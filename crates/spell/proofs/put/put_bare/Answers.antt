@@ -8,7 +8,7 @@ pub put_plan-requires : goal.put_plan-requires
 put_plan-requires c =
     let s = c in
     let o = c.head_of-p in
-    (o.ensures.few, plan_room s.args.w s.args.size o.result o.ensures s.args.«data».now s.args.at s.args.out.now s.requires.1)
+    plan_room s.args.w s.args.size o.result o.ensures s.args.«data».now s.args.at s.args.out.now s.requires.1
 
 pub returns : goal.returns
 returns c =

@@ -9,7 +9,7 @@ pub put_plan-next-requires : goal.put_plan-next-requires
 put_plan-next-requires c =
     let s = c in
     let o = c.head_of-p in
-    (o.ensures.few, plan_room s.args.w s.args.size o.result o.ensures s.args.«data».now s.args.at s.args.out.now s.requires.2)
+    plan_room s.args.w s.args.size o.result o.ensures s.args.«data».now s.args.at s.args.out.now s.requires.2
 
 pub put_part-requires : goal.put_part-requires
 put_part-requires c =

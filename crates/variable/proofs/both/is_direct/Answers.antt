@@ -1,14 +1,8 @@
--- `variable::both::is_direct` meets its contract: -124 is 124 before 0, and an unsigned number is not below 0. Assumes nothing.
-use mathlib.Core.Path.{ap, ◌∙◌}
-use Prim.Native.Nat.{ℕ}
-use lib.Dec.{ltb}
+-- `variable::both::is_direct` meets its contract. Assumes nothing.
+use mathlib.Core.Path.{◌∙◌}
 use Rattle.wide.specs.Words.{value_of}
-use Rattle.wide.proofs.Nearness.{behind_zero}
+use Rattle.variable.proofs.Variables.{has-direct}
 use Rattle.variable.proofs.both.is_direct.Goals as goal
 
-pub returns-then-signed : goal.returns-then-signed
-returns-then-signed c = rw c.if-signed.true c.is_near.ensures
-
 pub returns : goal.returns
-returns c =
-    rw c.if-signed.false (c.is_near-2.ensures ∙ ap (λ (x : ℕ). ltb x 248) (behind_zero (value_of c.args.w)))
+returns c = c.is_near.ensures ∙ has-direct c.args.signed (value_of c.args.w) c.first_of-first.result c.first_of-first.ensures

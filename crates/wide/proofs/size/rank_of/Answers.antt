@@ -15,8 +15,3 @@ returns-then-signed c =
     rank_folded a.w h c.folded.result c.doubled.result c.rank_unsigned.result
     c.folded.ensures c.doubled.ensures c.rank_unsigned.ensures
     ∙ ap (λ (b : Bool). rank b (value_of a.w)) (sym c.if-signed.true)
-
-pub returns : goal.returns
-returns c =
-    let a = c.args in
-    c.rank_unsigned-2.ensures ∙ ap (λ (b : Bool). rank b (value_of a.w)) (sym c.if-signed.false)

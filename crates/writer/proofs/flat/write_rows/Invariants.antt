@@ -1,10 +1,6 @@
 -- `writer::flat::write_rows` meets its contract: what is left to write completes the document. Assumes nothing.
-use Prim.Native.Nat.{◌-◌}
 use Rattle.writer.proofs.Writing.{Writes}
 use Rattle.writer.proofs.flat.write_rows.Given as goal
 
 abbrev pub invariant-loop-row : goal.invariant-loop-row
 invariant-loop-row l = Writes l.table l.data l.n l.initial.out l.row l.at l.out
-
-abbrev pub decreases-loop-row : goal.decreases-loop-row
-decreases-loop-row l = l.n - l.row
