@@ -6,6 +6,9 @@ use Rattle.wide.specs.Words.{value_of}
 use Rattle.wide.proofs.Nearness.{behind_zero}
 use Rattle.wide.proofs.integer.is_small.Goals as goal
 
+pub returns-then-signed : goal.returns-then-signed
+returns-then-signed c = rw c.if-signed.true c.is_near.ensures
+
 pub returns : goal.returns
 returns c =
     rw c.if-signed.false (c.is_near-2.ensures ∙ ap (λ (x : ℕ). ltb x 65) (behind_zero (value_of c.args.w)))
