@@ -2,7 +2,7 @@
 use Prim.Native.Nat.{ℕ, zero, suc, ◌+◌, ◌*◌, ◌/◌, ◌%◌, ◌-◌, ◌^◌, ◌≤◌, ◌<◌}
 use mathlib.Core.Bool.{true}
 use mathlib.Core.List.{List}
-use mathlib.Core.Path.{◌≡◌, sym, ap, ap₂, subst, ◌∙◌}
+use mathlib.Core.Path.{◌≡◌, refl, sym, ap, ap₂, subst, ◌∙◌}
 use native.Mathlib.Omega.{arith}
 use native.Mathlib.Nat.{add-zero, zero-add}
 use Rattle.std.proofs.Common.{below_more}
@@ -13,13 +13,8 @@ use Rattle.std.specs.Array.{IsFirstChunk}
 use Rattle.std.proofs.lemmas.List.{take_rest, get_or-take, get_or-drop}
 use Rattle.text.specs.Syntax.{plain_byte}
 use Rattle.text.specs.Check.{in_range}
-use Rattle.text.specs.Inner.{PlainTo}
+use Rattle.text.specs.Inner.{PlainTo, number_at}
 use Rattle.text.proofs.Table.{within_true}
-
--- the n bytes from `at` on as one number, the first lowest
-abbrev number_at : List ℕ → ℕ → ℕ → ℕ
-number_at s at zero = 0
-number_at s at (suc n) = get_or s at 0 + 256 * number_at s (suc at) n
 
 -- the top bits of n bytes
 abbrev pub tops : ℕ → ℕ
@@ -66,19 +61,38 @@ times P at (suc n) r step =
     let e : at + suc n ≡ at + n + 1 = omega arith in
     rw e (step n (omega arith) (times P at n r (λ j b. step j (omega arith))))
 
--- the eight bytes e at the front of those from `at` on
-pub eight_more : (s e : List ℕ) (from at w : ℕ) → PlainTo s from at → IsFirstChunk (take (length s - at) (drop at s)) e 8
-    → ((j : ℕ) → get_or s j 0 < 256) → w ≡ from_le_bytes w64 e → bit_and w (tops 8) ≡ 0 → PlainTo s from (at + 8)
-eight_more s e from at w r h f q z =
-    let n : w ≡ number_at e 0 8 = omega arith in
-    let none : bit_and (number_at e 0 8) (tops 8) ≡ 0 = ap (λ (m : ℕ). bit_and m (tops 8)) (sym n) ∙ z in
-    let long : 8 ≤ length (drop at s) = subst (λ (t : List ℕ). 8 ≤ length t) (take_rest s at) h.enough in
-    times (PlainTo s from) at 8 r
-    (λ j b p. more s from (at + j) p (omega (arith, length-drop at s))
-    (subst (λ (x : ℕ). in_range plain_byte x ≡ true) (there j b) (rw zero-add at (no_tops e 0 8 below none j b))))
-  where
-    there : (j : ℕ) → j < 8 → get_or e j 0 ≡ get_or s (at + j) 0
-    there j b = ap (λ (t : List ℕ). get_or t j 0) (h.same ∙ ap (take 8) (take_rest s at)) ∙ get_or-take 8 (drop at s) j 0 b ∙ get_or-drop at s j 0
+pub eight_more : (s : List ℕ) (from at w : ℕ) → PlainTo s from at → 8 ≤ length s - at → ((j : ℕ) → get_or s j 0 < 256)
+    → w ≡ number_at s at 8 → bit_and w (tops 8) ≡ 0 → PlainTo s from (at + 8)
+eight_more s from at w r h f e z =
+    let none : bit_and (number_at s at 8) (tops 8) ≡ 0 = ap (λ (n : ℕ). bit_and n (tops 8)) (sym e) ∙ z in
+    times (PlainTo s from) at 8 r (λ j b q. more s from (at + j) q (omega arith) (no_tops s at 8 (λ k a l. f k) none j b))
 
-    below : (j : ℕ) → 0 ≤ j → j < 0 + 8 → get_or e j 0 < 256
-    below j a b = subst (λ (x : ℕ). x < 256) (sym (there j (omega arith))) (f (at + j))
+-- bytes that are the same make the same number
+number_same : (s e : List ℕ) (at k n : ℕ) → ((j : ℕ) → j < n → get_or e (k + j) 0 ≡ get_or s (at + j) 0) → number_at e k n ≡ number_at s at n
+number_same s e at k zero f = refl
+number_same s e at k (suc n) f =
+    let first : get_or e k 0 ≡ get_or s at 0 = rw (add-zero k, add-zero at) at (f 0 (omega arith)) in
+    let rest : number_at e (suc k) n ≡ number_at s (suc at) n = number_same s e (suc at) (suc k) n (λ j b. later j b) in
+    ap₂ (λ (x y : ℕ). x + 256 * y) first rest
+  where
+    later : (j : ℕ) → j < n → get_or e (suc k + j) 0 ≡ get_or s (suc at + j) 0
+    later j b =
+        let p : k + suc j ≡ suc k + j = omega arith in
+        let q : at + suc j ≡ suc at + j = omega arith in
+        rw (p, q) at (f (suc j) (omega arith))
+
+-- the eight bytes e at the front of those from `at` on make the number of those bytes, and are eight more
+module _ (s e : List ℕ) (at : ℕ) (h : IsFirstChunk (take (length s - at) (drop at s)) e 8) where
+  there : (j : ℕ) → j < 8 → get_or e (0 + j) 0 ≡ get_or s (at + j) 0
+  there j b = rw zero-add (ap (λ (t : List ℕ). get_or t j 0) (h.same ∙ ap (take 8) (take_rest s at)) ∙ get_or-take 8 (drop at s) j 0 b ∙ get_or-drop at s j 0)
+
+  pub chunk_number : from_le_bytes w64 e ≡ number_at s at 8
+  chunk_number =
+      let n : from_le_bytes w64 e ≡ number_at e 0 8 = omega arith in
+      n ∙ number_same s e at 0 8 there
+
+  pub chunk_more : (from w : ℕ) → PlainTo s from at → ((j : ℕ) → get_or s j 0 < 256) → w ≡ from_le_bytes w64 e → bit_and w (tops 8) ≡ 0
+      → PlainTo s from (at + 8)
+  chunk_more from w r f q z =
+      let long : 8 ≤ length (drop at s) = subst (λ (t : List ℕ). 8 ≤ length t) (take_rest s at) h.enough in
+      eight_more s from at w r (omega (arith, length-drop at s)) f (q ∙ chunk_number) z

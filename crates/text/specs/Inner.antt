@@ -1,6 +1,6 @@
--- Words of the contracts inside: what the first byte of a sequence says of the others, by the first ranges of the table's lines; and what a
--- run of plain bytes is. Definitions only, which no promise to a user cites.
-use Rattle.std.specs.Prelude.{ℕ, ◌≤◌, ◌<◌, true, cond, List, [], ◌∷◌, Option, Some, None, ◌≡◌, length, get_or}
+-- Words of the contracts inside: what the first byte of a sequence says of the others, by the first ranges of the table's lines; what a run
+-- of plain bytes is, and the number that some bytes make. Definitions only, which no promise to a user cites.
+use Rattle.std.specs.Prelude.{ℕ, zero, suc, ◌+◌, ◌*◌, ◌≤◌, ◌<◌, true, cond, List, [], ◌∷◌, Option, Some, None, ◌≡◌, length, get_or}
 use Rattle.text.specs.declared.lead.Lead.{Lead}
 use Rattle.text.specs.Syntax.{Range, ◌to◌, Line, UTF8-tail, plain_byte, UTF8-char}
 use Rattle.text.specs.Check.{in_range}
@@ -30,3 +30,8 @@ pub record PlainTo (s : List ℕ) (from end : ℕ) : Type 0 where
   pub rises : from ≤ end
   pub inside : end ≤ length s
   pub plain : (k : ℕ) → from ≤ k → k < end → in_range plain_byte (get_or s k 0) ≡ true
+
+-- the n bytes from `at` on as one number, the first lowest
+abbrev pub number_at : List ℕ → ℕ → ℕ → ℕ
+number_at s at zero = 0
+number_at s at (suc n) = get_or s at 0 + 256 * number_at s (suc at) n
