@@ -44,6 +44,11 @@ zeroed_laid from l ys h e =
     let r : post_of from (length l - from) l ≡ [] = Post-is from (length l) l h ∙ drop_of_length-le l (le_refl (length l)) in
     rw (e, n, r, append-nil)
 
+-- as the kit says what `fill` leaves: the zeros, where a copy of a number is that number
+pub zeroed_filled : (from : ℕ) (l ys : List ℕ) → from ≤ length l
+    → (((y : ℕ) → y ≡ 0 → y ≡ 0) → ys ≡ replicate (length (mid_of from (length l - from) l)) 0) → put_mid from (length l - from) l ys ≡ zeroed from l
+zeroed_filled from l ys h e = zeroed_laid from l ys h (e (λ y q. q))
+
 -- the numbers before it stay
 pub take-zeroed : (n from : ℕ) (l : List ℕ) → n ≤ from → take n (zeroed from l) ≡ take n l
 take-zeroed zero from l h = refl
