@@ -1,5 +1,5 @@
 -- A leaf met straight at its bytes: where it ends, and its row laid, by each way out. Assumes nothing.
-use Rattle.std.specs.Prelude.{Result, Ok, Err}
+use Rattle.std.specs.Prelude.{Result, Ok, Err, Some}
 use mathlib.Core.Path.{◌≡◌, ◌∙◌, sym, ap, refl, subst}
 use mathlib.Core.Bool.{Bool, true, false, cond}
 use mathlib.Core.List.{List}
@@ -29,11 +29,11 @@ use Rattle.format.specs.declared.refusal.Refusal.{Refusal}
 use Rattle.format.specs.declared.refusal.Refusal.TheVariants as why
 use Rattle.format.specs.declared.head.Spelling.{Spelling}
 use Rattle.format.specs.Head.{counts, refuse, count_at, bodied, spelled, spelling, spelling_of, integer_head, text_head, binary_head, head_at, key_at}
-use Rattle.format.proofs.Heads.{CountAt, Counted, counted}
+use Rattle.format.proofs.Heads.{CountAt, Counted, counted, leaf-after}
 use Rattle.format.specs.Value.{integer_own, integer_kind, leaf_own}
 use Rattle.heads.proofs.Counts.{length-one}
 use Rattle.heads.proofs.Positions as positions
-use Rattle.leaves.specs.Inner.{Known, end_of, LeafEnds, LeafAsked, KeyEnds, KeyAsked, SpanBehind, LeafLaid}
+use Rattle.leaves.specs.Inner.{Known, end_of, LeafEnds, LeafAsked, KeyEnds, KeyAsked, SpanBehind, LeafLaid, LeafTried}
 use Rattle.leaves.proofs.Leaves.{constant-row, small_row, integer-row, span-row}
 
 -- ---- what is no refusal
@@ -75,6 +75,11 @@ laid h s table row table' next c q e w f = record { content = c; is = e; put = f
 -- the same head, said otherwise
 pub laid_as : (h h' : Result Head Refused) (s table : List ℕ) (row : ℕ) (table' : List ℕ) (r : ℕ) → h ≡ h' → LeafLaid h s table row table' r → LeafLaid h' s table row table' r
 laid_as h h' s table row table' r e t = subst (λ (x : Result Head Refused). LeafLaid x s table row table' r) e t
+
+-- what stands at `at` is laid: it ends behind its place, so not at 0
+pub tried : (h : Result Head Refused) (s : List ℕ) (at stop : ℕ) (table : List ℕ) (row : ℕ) (table' : List ℕ) (r : ℕ) → h ≡ head_at s at stop
+    → LeafLaid h s table row table' r → LeafTried (head_at s at stop) s table row table' (Some r) × (at < r)
+tried h s at stop table row table' r e t = (laid_as h (head_at s at stop) s table row table' r e t, leaf-after s at stop h e t.content r t.is)
 
 module _ (s table : List ℕ) (at row : ℕ) (table' : List ℕ) (q : Row) (f : table' ≡ sets table (words_per_row * row) (words_of q)) where
   -- a text, or a binary
@@ -233,6 +238,14 @@ key_asked s at stop n r l h e few w =
     record { ends = λ z. subst (λ (x : Result Spelling Refusal). KeyEnds x r) is (text_key at (spelling s (at + 1) n stop) r (w.ends z)) }
 
 -- ---- behind a length
+
+-- what is no refusal has a length
+module _ (s : List ℕ) (at stop : ℕ) (c : Result Count Refusal) (e : c ≡ count_at key_length s (at + 1) stop) (y : Refusal) (f : c ≡ Err y) where
+  pub spelt_never : Known (text_head at (spelling_of s stop (count_at key_length s (at + 1) stop))) → ⊥
+  spelt_never k = subst (λ (x : Result Count Refusal). Known (text_head at (spelling_of s stop x))) (sym e ∙ f) k
+
+  pub bodied_never : Known (binary_head at stop (count_at key_length s (at + 1) stop)) → ⊥
+  bodied_never k = subst (λ (x : Result Count Refusal). Known (binary_head at stop x)) (sym e ∙ f) k
 
 module _ (s : List ℕ) (at stop : ℕ) (c : Result Count Refusal) (e : c ≡ count_at key_length s (at + 1) stop) (r : Count) (f : c ≡ Ok r) where
   counts_at : CountAt (at + 1) stop r.value r.next

@@ -8,7 +8,7 @@ use native.Mathlib.Decide.{dec_lt}
 use mathlib.Core.List.{List, [], ◌∷◌, ◌++◌}
 use lib.ListN.{length, get_or, take, length-append, get_or-append}
 use lib.Dec.{eqb}
-use borrow.Author.Tests.{eqb-true}
+use borrow.Author.Tests.{eq-eqb, eqb-true}
 use lib.Seq.{sets, get_or_at, take_all}
 use Rattle.rows.specs.declared.row.Row.{Row}
 use Rattle.rows.specs.Table.{words_per_row, row_at, lent}
@@ -147,6 +147,9 @@ based_sets table row words base n below b =
     record { small = b.small; even = λ e i l. walk_sets table row words (first_in base) n below i (omega arith) ∙ b.even e i l }
 
 -- the base of entries that stand from `first` to `end`
+pub base_even : (first end count : ℕ) → end - first ≡ count → first + 4294967296 ≡ base_of first end count
+base_even first end count e = sym (ap (λ (b : Bool). cond b (first + 4294967296) first) (eq-eqb (end - first) count e))
+
 pub first_base : (first end count : ℕ) → first < 4294967296 → first_in (base_of first end count) ≡ first
 first_base first end count h = of (eqb (end - first) count)
   where
