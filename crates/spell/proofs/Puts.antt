@@ -1,5 +1,5 @@
 -- A row's own bytes laid in an output: the marks, the rest of the plan, the payload. Assumes nothing.
-use mathlib.Core.Path.{◌≡◌, sym, ap, ap₂, ◌∙◌}
+use mathlib.Core.Path.{◌≡◌, refl, sym, ap, ap₂, ◌∙◌}
 use mathlib.Core.Bool.{Bool, true, false, cond}
 use mathlib.Core.List.{List, [], ◌∷◌, ◌++◌, append-nil}
 use Prim.Native.Nat.{ℕ, suc, ◌+◌, ◌-◌, ◌≤◌, ◌<◌}
@@ -17,6 +17,8 @@ use Rattle.encode.proofs.Back.{part-long}
 use Rattle.plan.specs.declared.plan.Plan.{Plan}
 use Rattle.plan.specs.Inner.{marks_of, plan_bytes, Plans, own_head}
 use Rattle.rows.specs.Table.{own_of}
+use Rattle.rules.specs.declared.kind.Kind.{Kind}
+use Rattle.rules.specs.declared.kind.Kind.TheVariants.{Constant, Small, Signed, Unsigned, Float, Text, Holds, Binary, Char, Reference, Declaration, Whole, Damaged, Key, Unknown}
 use Rattle.rules.specs.Shape.{named}
 use Rattle.spell.specs.Inner.{own_bytes, own_size, Inside}
 
@@ -100,6 +102,25 @@ pub part_last : (out₀ out after s : List ℕ) (at place size i : ℕ) → 8 �
 part_last out₀ out after s at place size i w l u h eo ea =
     let k : size - 8 + 8 ≡ size = omega arith in
     part_on out₀ out after s at place (size - 8) i 8 (omega arith) (omega arith) (omega arith) eo ea ∙ ap (λ (n : ℕ). sets out₀ at (take n (drop place s))) k
+
+-- ---- which kinds have bytes of the data
+
+pub without_bytes : (K : Kind) → (K ≡ Float → ⊥) → (K ≡ Text → ⊥) → (K ≡ Binary → ⊥) → (K ≡ Damaged → ⊥) → (K ≡ Key → ⊥) → false ≡ has_bytes K
+without_bytes Constant _ _ _ _ _ = refl
+without_bytes Small _ _ _ _ _ = refl
+without_bytes Signed _ _ _ _ _ = refl
+without_bytes Unsigned _ _ _ _ _ = refl
+without_bytes Float f _ _ _ _ = absurd (f refl)
+without_bytes Text _ t _ _ _ = absurd (t refl)
+without_bytes (Holds holder) _ _ _ _ _ = refl
+without_bytes Binary _ _ b _ _ = absurd (b refl)
+without_bytes Char _ _ _ _ _ = refl
+without_bytes Reference _ _ _ _ _ = refl
+without_bytes Declaration _ _ _ _ _ = refl
+without_bytes Whole _ _ _ _ _ = refl
+without_bytes Damaged _ _ _ d _ = absurd (d refl)
+without_bytes Key _ _ _ _ k = absurd (k refl)
+without_bytes Unknown _ _ _ _ _ = refl
 
 -- ---- a row
 
