@@ -11,6 +11,7 @@ use lib.Dec.{leb}
 use borrow.Author.Tests.{le-leb, leb-true}
 use Rattle.lists.proofs.Sets.{sets_front}
 use Rattle.std.specs.Prelude.{Result, Ok, Err}
+use Rattle.std.specs.Result.{MatchResult, IsErrAnd}
 use Rattle.rows.specs.Table.{limit}
 use Rattle.format.specs.declared.unfilled.Unfilled.{Unfilled}
 use Rattle.format.specs.Answer.{answer, table_after}
@@ -35,6 +36,12 @@ fitted_done needed room used = of (leb needed limit) (leb needed room) refl
     of true true q e = record { all = cc; within = leb-true needed room q }
     of true false q e = absurd (let z : ◌≡◌ {A = ℕ} 0 1 = cc in omega arith)
     of false b q e = absurd (let z : ◌≡◌ {A = ℕ} 0 1 = cc in omega arith)
+
+-- under each refusal
+refused_unread : (depth : ℕ) (why : Unwritten) (document back : List ℕ) → back ≡ back_after depth (Err why) document back
+refused_unread depth BadTable document back = refl
+refused_unread depth (TooLarge needed) document back = refl
+refused_unread depth (NoRoom needed) document back = refl
 
 module _ (depth : ℕ) (table : List ℕ) (n : ℕ) (s : List ℕ) (out back : List ℕ) where
   abbrev D : List ℕ
@@ -84,7 +91,18 @@ module _ (depth : ℕ) (table : List ℕ) (n : ℕ) (s : List ℕ) (out back : L
 
       pub unread : back ≡ table_back depth table n s R back
       unfolding table_back
-      unread = ap (λ (x : Result ℕ Unwritten). back_after depth x D back) (sym q ∙ e)
+      unread = refused_unread depth why D back ∙ ap (λ (x : Result ℕ Unwritten). back_after depth x D back) (sym q ∙ e)
+
+-- ---- what stands behind a refusal that is made another
+
+pub ok_kept : (w m : Result ℕ Unwritten) (P : Unwritten → Unwritten → Type 0) → MatchResult w (λ x. m ≡ Ok x) (λ e. IsErrAnd m (P e)) → (used : ℕ) → m ≡ Ok used → w ≡ Ok used
+ok_kept (Ok x) m P h used q = sym h ∙ q
+ok_kept (Err e) m P h used q = absurd (subst (λ (y : Result ℕ Unwritten). IsErrAnd y (P e)) q h)
+
+pub err_kept : (w m : Result ℕ Unwritten) (P : Unwritten → Unwritten → Type 0) → MatchResult w (λ x. m ≡ Ok x) (λ e. IsErrAnd m (P e)) → ((e y : Unwritten) → P e y → y ≡ e)
+    → (why : Unwritten) → m ≡ Err why → w ≡ Err why
+err_kept (Ok x) m P h s why q = let z : Ok x ≡ Err why = sym h ∙ q in cc
+err_kept (Err e) m P h s why q = ap Err (sym (s e why (subst (λ (y : Result ℕ Unwritten). IsErrAnd y (P e)) q h)))
 
 -- ---- the demand
 

@@ -55,8 +55,8 @@ pub fn resolved(out: &mut [u32], a: Result<Resolved, BadTable>) -> u64
     ensures value { result ≡ packed_resolved a out.old }
     ensures out_after { out.new ≡ list_after (resolved_words a) out.old }
 {
-    let at = a.unwrap_or_default();
-    let words = [at.row as u32, at.bound as u32, at.moves as u32];
+    let end = a.unwrap_or_default();
+    let words = [end.row as u32, end.bound as u32, end.moves as u32];
     listed(out, words, pack::pack(a.number(), 0))
 }
 

@@ -1,13 +1,14 @@
 -- A row's own bytes laid in an output: the marks, the rest of the plan, the payload. Assumes nothing.
-use mathlib.Core.Path.{◌≡◌, sym, ap, ap₂, ◌∙◌}
+use mathlib.Core.Path.{◌≡◌, refl, sym, ap, ap₂, ◌∙◌}
 use mathlib.Core.Bool.{Bool, true, false, cond}
 use mathlib.Core.List.{List, [], ◌∷◌, ◌++◌, append-nil}
-use Prim.Native.Nat.{ℕ, suc, ◌+◌, ◌-◌, ◌≤◌}
+use Prim.Native.Nat.{ℕ, suc, ◌+◌, ◌-◌, ◌≤◌, ◌<◌}
+use native.Mathlib.Nat.{min-eq_left}
 use native.Mathlib.Omega.{arith}
-use lib.ListN.{length, take, drop, set, length-append}
+use lib.ListN.{length, take, drop, get_or, set, length-append, length-take, length-drop}
 use borrow.Rule.Slice.PartMut.{put_mid}
-use lib.Seq.{sets, length-sets}
-use Rattle.lists.proofs.Sets.{sets_append, sets_part}
+use lib.Seq.{sets, drop-cons, length-sets, take-add, drop-drop}
+use Rattle.lists.proofs.Sets.{sets_append, sets_over, sets_part}
 use Rattle.wide.specs.Number.{bytes_of}
 use Rattle.wide.specs.Words.{value_of}
 use Rattle.rows.specs.declared.row.Row.{Row}
@@ -16,6 +17,8 @@ use Rattle.encode.proofs.Back.{part-long}
 use Rattle.plan.specs.declared.plan.Plan.{Plan}
 use Rattle.plan.specs.Inner.{marks_of, plan_bytes, Plans, own_head}
 use Rattle.rows.specs.Table.{own_of}
+use Rattle.rules.specs.declared.kind.Kind.{Kind}
+use Rattle.rules.specs.declared.kind.Kind.TheVariants.{Constant, Small, Signed, Unsigned, Float, Text, Holds, Binary, Char, Reference, Declaration, Whole, Damaged, Key, Unknown}
 use Rattle.rules.specs.Shape.{named}
 use Rattle.spell.specs.Inner.{own_bytes, own_size, Inside}
 
@@ -30,7 +33,7 @@ plan_put out out₁ out₂ at next p n e g =
     let i : next + 1 ≡ suc next = omega arith in
     g ∙ ap (λ (x : ℕ). sets (set out₁ next p.lead) x B) i ∙ ap₂ (λ (l : List ℕ) (x : ℕ). sets l x (p.lead ∷ B)) e n ∙ sym (sets_append out at ms (p.lead ∷ B))
 
--- ---- a part of the data
+-- ---- a part of the data in one copy
 
 pub part_laid : (out d vs : List ℕ) (at place size : ℕ) → at + size ≤ length out → place + size ≤ length d → vs ≡ take (place + size - place) (drop place d)
     → put_mid at (at + size - at) out vs ≡ sets out at (take size (drop place d))
@@ -38,6 +41,86 @@ part_laid out d vs at place size room there e =
     let n : place + size - place ≡ size = omega arith in
     let f : vs ≡ take size (drop place d) = e ∙ ap (λ (k : ℕ). take k (drop place d)) n in
     sets_part out at size vs (ap length f ∙ part-long d place size there) room ∙ ap (sets out at) f
+
+-- ---- a part of the data: what is left to lay completes it
+
+pub part_start : (out d : List ℕ) (at place size : ℕ) → sets out (at + 0) (take (size - 0) (drop (place + 0) d)) ≡ sets out at (take size (drop place d))
+part_start out d at place size =
+    let p : at + 0 ≡ at = omega arith in
+    let q : size - 0 ≡ size = omega arith in
+    let r : place + 0 ≡ place = omega arith in
+    ap₂ (λ (a k : ℕ). sets out a (take k (drop (place + 0) d))) p q ∙ ap (λ (x : ℕ). sets out at (take size (drop x d))) r
+
+pub part_turn : (out t d : List ℕ) (at place size i b : ℕ) → i < size → place + size ≤ length d → b ≡ get_or d (place + i) 0
+    → sets out (at + i) (take (size - i) (drop (place + i) d)) ≡ t
+    → sets (set out (at + i) b) (at + (i + 1)) (take (size - (i + 1)) (drop (place + (i + 1)) d)) ≡ t
+part_turn out t d at place size i b l h e g =
+    let k : ℕ = size - (i + 1) in
+    let p : at + (i + 1) ≡ suc (at + i) = omega arith in
+    let q : place + (i + 1) ≡ suc (place + i) = omega arith in
+    let s : size - i ≡ suc k = omega arith in
+    let c : drop (place + i) d ≡ get_or d (place + i) 0 ∷ drop (suc (place + i)) d = drop-cons d (place + i) 0 (omega arith) in
+    ap₂ (λ (x y : ℕ). sets (set out (at + i) b) x (take k (drop y d))) p q
+    ∙ ap (λ (x : ℕ). sets (set out (at + i) x) (suc (at + i)) (take k (drop (suc (place + i)) d))) e
+    ∙ sym (ap₂ (λ (x : ℕ) (y : List ℕ). sets out (at + i) (take x y)) s c)
+    ∙ g
+
+pub part_end : (out t d : List ℕ) (at place size i : ℕ) → size ≤ i → sets out (at + i) (take (size - i) (drop (place + i) d)) ≡ t → out ≡ t
+part_end out t d at place size i l g =
+    let z : 0 ≡ size - i = omega arith in
+    ap (λ (k : ℕ). sets out (at + i) (take k (drop (place + i) d))) z ∙ g
+
+-- ---- a part that grows by some bytes of it
+
+-- bytes from e on over those that are laid up to i
+pub part-over : (out d : List ℕ) (at e i n : ℕ) → e ≤ i → i ≤ e + n → e + n ≤ length d
+    → sets (sets out at (take i d)) (at + e) (take n (drop e d)) ≡ sets out at (take (e + n) d)
+part-over out d at e i n l u h =
+    let k : i ≡ e + (i - e) = omega arith in
+    let x : List ℕ = take e d in
+    let le : length x ≡ e = length-take e d ∙ min-eq_left (omega arith) in
+    let y : List ℕ = take (i - e) (drop e d) in
+    let z : List ℕ = take n (drop e d) in
+    let ly : length y ≤ length z = omega (arith, part-long d e (i - e) (omega arith), part-long d e n h) in
+    ap (λ (j : ℕ). sets (sets out at (take j d)) (at + e) z) k
+    ∙ ap (λ (v : List ℕ). sets (sets out at v) (at + e) z) (take-add e (i - e) d)
+    ∙ ap (λ (v : List ℕ). sets v (at + e) z) (sets_append out at x y ∙ ap (λ (j : ℕ). sets (sets out at x) (at + j) y) le)
+    ∙ sets_over (sets out at x) (at + e) y z ly
+    ∙ ap (λ (j : ℕ). sets (sets out at x) (at + j) z) (sym le)
+    ∙ sym (sets_append out at x z)
+    ∙ ap (sets out at) (sym (take-add e n d))
+
+pub part_on : (out₀ out after s : List ℕ) (at place e i n : ℕ) → e ≤ i → i ≤ e + n → place + (e + n) ≤ length s → out ≡ sets out₀ at (take i (drop place s))
+    → after ≡ sets out (at + e) (take n (drop (place + e) s)) → after ≡ sets out₀ at (take (e + n) (drop place s))
+part_on out₀ out after s at place e i n l u h eo ea =
+    ea
+    ∙ ap₂ (λ (o v : List ℕ). sets o (at + e) (take n v)) eo (sym (drop-drop e place s))
+    ∙ part-over out₀ (drop place s) at e i n l u (omega (arith, length-drop place s))
+
+pub part_last : (out₀ out after s : List ℕ) (at place size i : ℕ) → 8 ≤ size → i ≤ size → size - i ≤ 8 → place + size ≤ length s → out ≡ sets out₀ at (take i (drop place s))
+    → after ≡ sets out (at + (size - 8)) (take 8 (drop (place + (size - 8)) s)) → after ≡ sets out₀ at (take size (drop place s))
+part_last out₀ out after s at place size i w l u h eo ea =
+    let k : size - 8 + 8 ≡ size = omega arith in
+    part_on out₀ out after s at place (size - 8) i 8 (omega arith) (omega arith) (omega arith) eo ea ∙ ap (λ (n : ℕ). sets out₀ at (take n (drop place s))) k
+
+-- ---- which kinds have bytes of the data
+
+pub without_bytes : (K : Kind) → (K ≡ Float → ⊥) → (K ≡ Text → ⊥) → (K ≡ Binary → ⊥) → (K ≡ Damaged → ⊥) → (K ≡ Key → ⊥) → false ≡ has_bytes K
+without_bytes Constant _ _ _ _ _ = refl
+without_bytes Small _ _ _ _ _ = refl
+without_bytes Signed _ _ _ _ _ = refl
+without_bytes Unsigned _ _ _ _ _ = refl
+without_bytes Float f _ _ _ _ = absurd (f refl)
+without_bytes Text _ t _ _ _ = absurd (t refl)
+without_bytes (Holds holder) _ _ _ _ _ = refl
+without_bytes Binary _ _ b _ _ = absurd (b refl)
+without_bytes Char _ _ _ _ _ = refl
+without_bytes Reference _ _ _ _ _ = refl
+without_bytes Declaration _ _ _ _ _ = refl
+without_bytes Whole _ _ _ _ _ = refl
+without_bytes Damaged _ _ _ d _ = absurd (d refl)
+without_bytes Key _ _ _ _ k = absurd (k refl)
+without_bytes Unknown _ _ _ _ _ = refl
 
 -- ---- a row
 

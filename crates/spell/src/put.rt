@@ -63,12 +63,32 @@ fn put_plan(out: &mut [u8], at: usize, p: Plan) -> usize
     next + 1 + p.size
 }
 
-// `size` bytes of the data from `place` on.
+// Eight bytes of the data from `place` on: one load and one store.
+fn put_eight(out: &mut [u8], at: usize, data: &[u8], place: usize)
+    requires { (at + 8 ≤ length out.old) × (place + 8 ≤ length «data».now) }
+    ensures { out.new ≡ sets out.old at (take 8 (drop place «data».now)) }
+{
+    out[at..at + 8].copy_from_slice(&data[place..place + 8]);
+}
+
+// `size` bytes of the data from `place` on: few one by one, more in eights, and the last eight again where they are not all new. One
+// copy_from_slice of `size` bytes would be a call of memmove, which the archive for C is to do without.
 fn put_part(out: &mut [u8], at: usize, data: &[u8], place: usize, size: usize)
     requires { (at + size ≤ length out.old) × (place + size ≤ length «data».now) }
     ensures { out.new ≡ sets out.old at (take size (drop place «data».now)) }
 {
-    out[at..at + size].copy_from_slice(&data[place..place + size]);
+    if size < 8 {
+        for i in 0..size {
+            out[at + i] = data[place + i];
+        }
+        return;
+    }
+    let mut laid = 0;
+    while 8 < size - laid {
+        put_eight(out, at + laid, data, place + laid);
+        laid += 8;
+    }
+    put_eight(out, at + (size - 8), data, place + (size - 8));
 }
 
 // A row's own bytes at `at`, where it has none of the data; only the contract speaks of them.

@@ -25,7 +25,9 @@ fn write_within(
     ensures value { result ≡ written depth table.now n «data».now (length out.old) }
     ensures out_after { out.new ≡ output_after depth table.now n «data».now out.old }
 {
-    checker::check_within(table, n, data, depth)?;
+    if checker::check_within(table, n, data, depth).is_err() {
+        return Err(Unwritten::BadTable);
+    }
     let needed = sizes::size_children(table, 0, n);
     if Row::LIMIT < needed {
         return Err(Unwritten::TooLarge { needed });
