@@ -144,10 +144,10 @@ fn measure_children(
             rows += row_in(f);
             place = place_in(f);
             broken |= is_broken(f);
-        } else {
-            rows += 1;
-            place = next;
+            continue; // for speed alone: with an else the compiler makes one loop of two, and saves registers around each text
         }
+        rows += 1;
+        place = next;
     }
     right(rows, place, broken)
 }

@@ -4,7 +4,6 @@ use borrow.Author.Rules.{rules}
 use Rattle.format.proofs.Heads.{declare_within, hold-few, hold_within}
 use Rattle.measure.proofs.Measures.{all_fit, child_key, child-value, children-low, children_stop, declare-few, declare-low, declare_pos, declare-right, declare-wrong, entry-wrong, foreign-inside, foreign_pos, frame_few, frame_right, frame_wrong, hold_pos, hold-right, hold-wrong, holder_few, kept-all, kept-few, kept-first, kept-fits, kept_low, kept_next, kept-one, kept_plus, kept-wrong, leaf-low, refer-low, refuse_low, row_fits, rows_fit, value-declare, value_deep, value-foreign, value-hold, value-leaf, value_no_entry, value-refer, value_refuse}
 use Rattle.measure.proofs.value.+measuring.Goals as goal
-use Rattle.measure.proofs.value.+measuring.Goals.{measure_children-then-next-eq0+else-f-ge-WRONG, measure_children-else-next-eq0}
 
 pub measure_child-returns-then-is_key : goal.measure_child-returns-then-is_key
 measure_child-returns-then-is_key t c = search child_key
@@ -21,15 +20,14 @@ measure_children-returns-then-f-ge-WRONG t c = search kept-wrong
 pub measure_children-overflow_add-rows : goal.measure_children-overflow_add-rows
 measure_children-overflow_add-rows t c = search kept-fits
 
-pub measure_children-overflow_add-rows-else-next-eq0 : goal.measure_children-overflow_add-rows-else-next-eq0
-measure_children-overflow_add-rows-else-next-eq0 t c = search kept_plus
+pub measure_children-loop-i-preserved-then-next-eq0 : goal.measure_children-loop-i-preserved-then-next-eq0
+measure_children-loop-i-preserved-then-next-eq0 t c = search kept_next
+
+pub measure_children-overflow_add-rows-in-loop-i : goal.measure_children-overflow_add-rows-in-loop-i
+measure_children-overflow_add-rows-in-loop-i t c = search kept_plus
 
 pub measure_children-loop-i-preserved : goal.measure_children-loop-i-preserved
-measure_children-loop-i-preserved t c =
-    elim c.if-next-eq0.branch [
-      | measure_children-then-next-eq0+else-f-ge-WRONG w ↦ rw (w.rows-is, w.place-is, w.broken-is) (search kept_next)
-      | measure_children-else-next-eq0 w ↦ rw (w.rows-is, w.place-is, w.broken-is) (search kept-one)
-    ]
+measure_children-loop-i-preserved t c = search kept-one
 
 pub measure_children-right-requires : goal.measure_children-right-requires
 measure_children-right-requires t c = search (rules, kept_low, kept-few)
