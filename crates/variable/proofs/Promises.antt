@@ -56,16 +56,27 @@ pub record Wrote (f out : List ℕ) (r : Result ℕ NoRoom) (after : List ℕ) :
 pub one_write : (f out : List ℕ) (r r' : Result ℕ NoRoom) (after after' : List ℕ) → Wrote f out r after → Wrote f out r' after' → (r ≡ r') × (after ≡ after')
 one_write f out r r' after after' p q = (p.answer ∙ sym q.answer, p.output ∙ sym q.output)
 
--- the paper's numbers of it: 0, or 13 where the form has no room; with room or without, the bytes of the form stand beside
+-- the paper's number of it: 0, or 13 where the form has no room
+pub coded_numbered : (f : List ℕ) (room : ℕ) → coded_number (written_of f room) ≡ cond (leb (length f) room) 0 13
+unfolding written_of
+coded_numbered f room = of (leb (length f) room)
+  where
+    of : (fits : Bool) → coded_number (cond fits (Ok (length f)) (Err (needs (length f)))) ≡ cond fits 0 13
+    of true = refl
+    of false = refl
+
+-- with room or without, the bytes of the form stand beside
+pub coded_besides : (f : List ℕ) (room : ℕ) → coded_beside (written_of f room) ≡ length f
+unfolding written_of
+coded_besides f room = of (leb (length f) room)
+  where
+    of : (fits : Bool) → coded_beside (cond fits (Ok (length f)) (Err (needs (length f)))) ≡ length f
+    of true = refl
+    of false = refl
+
 pub coded_numbers : (f : List ℕ) (room : ℕ)
     → (coded_number (written_of f room) ≡ cond (leb (length f) room) 0 13) × (coded_beside (written_of f room) ≡ length f)
-unfolding written_of
-coded_numbers f room = of (leb (length f) room)
-  where
-    of : (fits : Bool) → let r : Result ℕ NoRoom = cond fits (Ok (length f)) (Err (needs (length f))) in
-        (coded_number r ≡ cond fits 0 13) × (coded_beside r ≡ length f)
-    of true = (refl, refl)
-    of false = (refl, refl)
+coded_numbers f room = (coded_numbered f room, coded_besides f room)
 
 -- four words that are written into an output with room are read back, with the bytes written
 pub write_read : (s : Bool) (w : Wide) (out : List ℕ) → Words w → length (form (variable s) (value_of w)) ≤ length out
