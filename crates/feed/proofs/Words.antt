@@ -6,7 +6,7 @@ use Prim.Native.Nat.{ℕ, zero, suc, ◌+◌, ◌-◌, ◌*◌, ◌^◌, ◌≤�
 use native.Mathlib.Nat.{pow-le-pow_right, zero-lt-suc, mod-eq_of_lt}
 use native.Mathlib.Omega.{arith}
 use lib.ListN.{length, take, drop, get_or, set, length-set, length-drop, drop_of_length-le}
-use lib.Seq.{sets, sets-eq, length-take-le, drop-drop}
+use lib.Seq.{sets, sets-eq, length-take-le, drop-drop, take_all}
 use Rattle.wide.specs.declared.wide.Wide.{Wide}
 use Rattle.wide.specs.Number.{number}
 use Rattle.wide.specs.Words.{wide_of}
@@ -77,3 +77,16 @@ filled_whole before n s e =
     sets-eq (words_in n s) before 0 (omega (arith, w, e))
     ∙ ap (λ (r : List ℕ). words_in n s ++ r) (drop_of_length-le before (omega (arith, w, e)))
     ∙ append-nil (words_in n s)
+
+-- ---- the table is all that is lent, and the data stand behind its words
+
+pub lent_filled : (before now : List ℕ) (words n : ℕ) (s : List ℕ) → length before ≡ words → words ≡ n → now ≡ sets before 0 (words_in words s) → now ≡ words_in n s
+lent_filled before now words n s l e f = f ∙ filled_whole before words s l ∙ ap (λ (k : ℕ). words_in k s) e
+
+pub data_behind : (s : List ℕ) (front n : ℕ) → front ≡ 4 * n → take (length s - front) (drop front s) ≡ drop (4 * n) s
+data_behind s front n e =
+    let h : length (drop front s) ≡ length s - front = length-drop front s in
+    take_all (length s - front) (drop front s) (omega (arith, h)) ∙ ap (λ (k : ℕ). drop k s) e
+
+pub data_length : (s : List ℕ) (front n more : ℕ) → length s ≡ front + n + more → length (take (length s - front) (drop front s)) ≡ n + more
+data_length s front n more e = length-take-le (length s - front) (drop front s) (simp length-drop (omega arith)) ∙ omega (arith, e)
