@@ -42,6 +42,27 @@ part_laid out d vs at place size room there e =
     let f : vs ≡ take size (drop place d) = e ∙ ap (λ (k : ℕ). take k (drop place d)) n in
     sets_part out at size vs (ap length f ∙ part-long d place size there) room ∙ ap (sets out at) f
 
+-- eight bytes, read one by one
+byte_before : (d : List ℕ) (p k n : ℕ) (l : List ℕ) → p + k < length d → l ≡ take n (drop (p + (k + 1)) d) → get_or d (p + k) 0 ∷ l ≡ take (suc n) (drop (p + k) d)
+byte_before d p k n l h e =
+    let i : p + (k + 1) ≡ suc (p + k) = omega arith in
+    ap (λ (x : List ℕ). get_or d (p + k) 0 ∷ x) (e ∙ ap (λ (x : ℕ). take n (drop x d)) i) ∙ ap (take (suc n)) (sym (drop-cons d (p + k) 0 h))
+
+eight_bytes : (d : List ℕ) (p : ℕ) → p + 8 ≤ length d
+    → get_or d p 0 ∷ get_or d (p + 1) 0 ∷ get_or d (p + 2) 0 ∷ get_or d (p + 3) 0 ∷ get_or d (p + 4) 0 ∷ get_or d (p + 5) 0 ∷ get_or d (p + 6) 0 ∷ get_or d (p + 7) 0 ∷ [] ≡ take 8 (drop p d)
+eight_bytes d p h =
+    let i : p + 1 ≡ suc p = omega arith in
+    let seven = byte_before d p 1 6 _ (omega arith) (byte_before d p 2 5 _ (omega arith) (byte_before d p 3 4 _ (omega arith) (byte_before d p 4 3 _ (omega arith)
+    (byte_before d p 5 2 _ (omega arith) (byte_before d p 6 1 _ (omega arith) (byte_before d p 7 0 [] (omega arith) refl)))))) in
+    ap (λ (x : List ℕ). get_or d p 0 ∷ x) (seven ∙ ap (λ (x : ℕ). take 7 (drop x d)) i) ∙ ap (take 8) (sym (drop-cons d p 0 (omega arith)))
+
+pub eight_laid : (out d : List ℕ) (at place : ℕ) → at + 8 ≤ length out → place + 8 ≤ length d
+    → put_mid at (at + 8 - at) out (get_or d place 0 ∷ get_or d (place + 1) 0 ∷ get_or d (place + 2) 0 ∷ get_or d (place + 3) 0 ∷ get_or d (place + 4) 0 ∷ get_or d (place + 5) 0 ∷ get_or d (place + 6) 0 ∷ get_or d (place + 7) 0 ∷ [])
+    ≡ sets out at (take 8 (drop place d))
+eight_laid out d at place room there =
+    let n : 8 ≡ place + 8 - place = omega arith in
+    part_laid out d _ at place 8 room there (eight_bytes d place there ∙ ap (λ (k : ℕ). take k (drop place d)) n)
+
 -- ---- a part of the data: what is left to lay completes it
 
 pub part_start : (out d : List ℕ) (at place size : ℕ) → sets out (at + 0) (take (size - 0) (drop (place + 0) d)) ≡ sets out at (take size (drop place d))

@@ -63,12 +63,22 @@ fn put_plan(out: &mut [u8], at: usize, p: Plan) -> usize
     next + 1 + p.size
 }
 
-// Eight bytes of the data from `place` on: one load and one store.
+// Eight bytes of the data from `place` on: one load and one store, since all are read before one is laid.
 fn put_eight(out: &mut [u8], at: usize, data: &[u8], place: usize)
     requires { (at + 8 ≤ length out.old) × (place + 8 ≤ length «data».now) }
     ensures { out.new ≡ sets out.old at (take 8 (drop place «data».now)) }
 {
-    out[at..at + 8].copy_from_slice(&data[place..place + 8]);
+    let eight = [
+        data[place],
+        data[place + 1],
+        data[place + 2],
+        data[place + 3],
+        data[place + 4],
+        data[place + 5],
+        data[place + 6],
+        data[place + 7],
+    ];
+    out[at..at + 8].copy_from_slice(&eight);
 }
 
 // `size` bytes of the data from `place` on: few one by one, more in eights, and the last eight again where they are not all new. One
