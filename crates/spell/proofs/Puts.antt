@@ -2,10 +2,10 @@
 use mathlib.Core.Path.{◌≡◌, refl, sym, ap, ap₂, ◌∙◌}
 use mathlib.Core.Bool.{Bool, true, false, cond}
 use mathlib.Core.List.{List, [], ◌∷◌, ◌++◌, append-nil}
-use Prim.Native.Nat.{ℕ, suc, ◌+◌, ◌-◌, ◌≤◌, ◌<◌}
+use Prim.Native.Nat.{ℕ, zero, suc, ◌+◌, ◌-◌, ◌≤◌, ◌<◌}
 use native.Mathlib.Nat.{min-eq_left}
 use native.Mathlib.Omega.{arith}
-use lib.ListN.{length, take, drop, get_or, set, length-append, length-take, length-drop}
+use lib.ListN.{length, take, drop, get_or, set, length-append, length-take, length-drop, length-set}
 use borrow.Rule.Slice.PartMut.{put_mid}
 use lib.Seq.{sets, drop-cons, length-sets, take-add, drop-drop}
 use Rattle.lists.proofs.Sets.{sets_append, sets_over, sets_part}
@@ -41,27 +41,6 @@ part_laid out d vs at place size room there e =
     let n : place + size - place ≡ size = omega arith in
     let f : vs ≡ take size (drop place d) = e ∙ ap (λ (k : ℕ). take k (drop place d)) n in
     sets_part out at size vs (ap length f ∙ part-long d place size there) room ∙ ap (sets out at) f
-
--- eight bytes, read one by one
-byte_before : (d : List ℕ) (p k n : ℕ) (l : List ℕ) → p + k < length d → l ≡ take n (drop (p + (k + 1)) d) → get_or d (p + k) 0 ∷ l ≡ take (suc n) (drop (p + k) d)
-byte_before d p k n l h e =
-    let i : p + (k + 1) ≡ suc (p + k) = omega arith in
-    ap (λ (x : List ℕ). get_or d (p + k) 0 ∷ x) (e ∙ ap (λ (x : ℕ). take n (drop x d)) i) ∙ ap (take (suc n)) (sym (drop-cons d (p + k) 0 h))
-
-eight_bytes : (d : List ℕ) (p : ℕ) → p + 8 ≤ length d
-    → get_or d p 0 ∷ get_or d (p + 1) 0 ∷ get_or d (p + 2) 0 ∷ get_or d (p + 3) 0 ∷ get_or d (p + 4) 0 ∷ get_or d (p + 5) 0 ∷ get_or d (p + 6) 0 ∷ get_or d (p + 7) 0 ∷ [] ≡ take 8 (drop p d)
-eight_bytes d p h =
-    let i : p + 1 ≡ suc p = omega arith in
-    let seven = byte_before d p 1 6 _ (omega arith) (byte_before d p 2 5 _ (omega arith) (byte_before d p 3 4 _ (omega arith) (byte_before d p 4 3 _ (omega arith)
-    (byte_before d p 5 2 _ (omega arith) (byte_before d p 6 1 _ (omega arith) (byte_before d p 7 0 [] (omega arith) refl)))))) in
-    ap (λ (x : List ℕ). get_or d p 0 ∷ x) (seven ∙ ap (λ (x : ℕ). take 7 (drop x d)) i) ∙ ap (take 8) (sym (drop-cons d p 0 (omega arith)))
-
-pub eight_laid : (out d : List ℕ) (at place : ℕ) → at + 8 ≤ length out → place + 8 ≤ length d
-    → put_mid at (at + 8 - at) out (get_or d place 0 ∷ get_or d (place + 1) 0 ∷ get_or d (place + 2) 0 ∷ get_or d (place + 3) 0 ∷ get_or d (place + 4) 0 ∷ get_or d (place + 5) 0 ∷ get_or d (place + 6) 0 ∷ get_or d (place + 7) 0 ∷ [])
-    ≡ sets out at (take 8 (drop place d))
-eight_laid out d at place room there =
-    let n : 8 ≡ place + 8 - place = omega arith in
-    part_laid out d _ at place 8 room there (eight_bytes d place there ∙ ap (λ (k : ℕ). take k (drop place d)) n)
 
 -- ---- a part of the data: what is left to lay completes it
 
@@ -123,6 +102,34 @@ pub part_last : (out₀ out after s : List ℕ) (at place size i : ℕ) → 8 �
 part_last out₀ out after s at place size i w l u h eo ea =
     let k : size - 8 + 8 ≡ size = omega arith in
     part_on out₀ out after s at place (size - 8) i 8 (omega arith) (omega arith) (omega arith) eo ea ∙ ap (λ (n : ℕ). sets out₀ at (take n (drop place s))) k
+
+-- ---- the first k bytes of a part, laid one by one
+
+-- k behind a place, as the code has it
+abbrev pub on : ℕ → ℕ → ℕ
+on at zero = at
+on at (suc k) = at + suc k
+
+pub on_is : (at k : ℕ) → on at k ≡ at + k
+on_is at zero = omega arith
+on_is at (suc k) = refl
+
+abbrev pub firsts : ℕ → List ℕ → ℕ → List ℕ → ℕ → List ℕ
+firsts zero out at d p = out
+firsts (suc k) out at d p = set (firsts k out at d p) (on at k) (get_or d (on p k) 0)
+
+pub firsts_long : (k : ℕ) (out : List ℕ) (at : ℕ) (d : List ℕ) (p : ℕ) → length (firsts k out at d p) ≡ length out
+firsts_long zero out at d p = refl
+firsts_long (suc k) out at d p = length-set (firsts k out at d p) (on at k) _ ∙ firsts_long k out at d p
+
+pub firsts_laid : (k : ℕ) (out : List ℕ) (at : ℕ) (d : List ℕ) (p : ℕ) → p + k ≤ length d → firsts k out at d p ≡ sets out at (take k (drop p d))
+firsts_laid zero out at d p h = refl
+firsts_laid (suc k) out at d p h =
+    let e : k + 1 ≡ suc k = omega arith in
+    let F : List ℕ = firsts k out at d p in
+    part_on out F _ d at p k k 1 (omega arith) (omega arith) (omega arith) (firsts_laid k out at d p (omega arith))
+    (ap₂ (λ (x y : ℕ). set F x (get_or d y 0)) (on_is at k) (on_is p k) ∙ ap (λ (l : List ℕ). sets F (at + k) (take 1 l)) (sym (drop-cons d (p + k) 0 (omega arith))))
+    ∙ ap (λ (n : ℕ). sets out at (take n (drop p d))) e
 
 -- ---- which kinds have bytes of the data
 
