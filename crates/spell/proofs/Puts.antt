@@ -2,10 +2,10 @@
 use mathlib.Core.Path.{◌≡◌, refl, sym, ap, ap₂, ◌∙◌}
 use mathlib.Core.Bool.{Bool, true, false, cond}
 use mathlib.Core.List.{List, [], ◌∷◌, ◌++◌, append-nil}
-use Prim.Native.Nat.{ℕ, suc, ◌+◌, ◌-◌, ◌≤◌, ◌<◌}
+use Prim.Native.Nat.{ℕ, zero, suc, ◌+◌, ◌-◌, ◌≤◌, ◌<◌}
 use native.Mathlib.Nat.{min-eq_left}
 use native.Mathlib.Omega.{arith}
-use lib.ListN.{length, take, drop, get_or, set, length-append, length-take, length-drop}
+use lib.ListN.{length, take, drop, get_or, set, length-append, length-take, length-drop, length-set}
 use borrow.Rule.Slice.PartMut.{put_mid}
 use lib.Seq.{sets, drop-cons, length-sets, take-add, drop-drop}
 use Rattle.lists.proofs.Sets.{sets_append, sets_over, sets_part}
@@ -102,6 +102,34 @@ pub part_last : (out₀ out after s : List ℕ) (at place size i : ℕ) → 8 �
 part_last out₀ out after s at place size i w l u h eo ea =
     let k : size - 8 + 8 ≡ size = omega arith in
     part_on out₀ out after s at place (size - 8) i 8 (omega arith) (omega arith) (omega arith) eo ea ∙ ap (λ (n : ℕ). sets out₀ at (take n (drop place s))) k
+
+-- ---- the first k bytes of a part, laid one by one
+
+-- k behind a place, as the code has it
+abbrev pub on : ℕ → ℕ → ℕ
+on at zero = at
+on at (suc k) = at + suc k
+
+pub on_is : (at k : ℕ) → on at k ≡ at + k
+on_is at zero = omega arith
+on_is at (suc k) = refl
+
+abbrev pub firsts : ℕ → List ℕ → ℕ → List ℕ → ℕ → List ℕ
+firsts zero out at d p = out
+firsts (suc k) out at d p = set (firsts k out at d p) (on at k) (get_or d (on p k) 0)
+
+pub firsts_long : (k : ℕ) (out : List ℕ) (at : ℕ) (d : List ℕ) (p : ℕ) → length (firsts k out at d p) ≡ length out
+firsts_long zero out at d p = refl
+firsts_long (suc k) out at d p = length-set (firsts k out at d p) (on at k) _ ∙ firsts_long k out at d p
+
+pub firsts_laid : (k : ℕ) (out : List ℕ) (at : ℕ) (d : List ℕ) (p : ℕ) → p + k ≤ length d → firsts k out at d p ≡ sets out at (take k (drop p d))
+firsts_laid zero out at d p h = refl
+firsts_laid (suc k) out at d p h =
+    let e : k + 1 ≡ suc k = omega arith in
+    let F : List ℕ = firsts k out at d p in
+    part_on out F _ d at p k k 1 (omega arith) (omega arith) (omega arith) (firsts_laid k out at d p (omega arith))
+    (ap₂ (λ (x y : ℕ). set F x (get_or d y 0)) (on_is at k) (on_is p k) ∙ ap (λ (l : List ℕ). sets F (at + k) (take 1 l)) (sym (drop-cons d (p + k) 0 (omega arith))))
+    ∙ ap (λ (n : ℕ). sets out at (take n (drop p d))) e
 
 -- ---- which kinds have bytes of the data
 

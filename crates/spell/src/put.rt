@@ -63,12 +63,28 @@ fn put_plan(out: &mut [u8], at: usize, p: Plan) -> usize
     next + 1 + p.size
 }
 
-// Eight bytes of the data from `place` on: one load and one store.
+// Eight bytes of the data from `place` on: one load and one store. A copy_from_slice of eight asks each time whether they overlap, and an
+// array of eight goes through memory.
 fn put_eight(out: &mut [u8], at: usize, data: &[u8], place: usize)
     requires { (at + 8 ≤ length out.old) × (place + 8 ≤ length «data».now) }
     ensures { out.new ≡ sets out.old at (take 8 (drop place «data».now)) }
 {
-    out[at..at + 8].copy_from_slice(&data[place..place + 8]);
+    let a = data[place];
+    let b = data[place + 1];
+    let c = data[place + 2];
+    let d = data[place + 3];
+    let e = data[place + 4];
+    let f = data[place + 5];
+    let g = data[place + 6];
+    let h = data[place + 7];
+    out[at] = a;
+    out[at + 1] = b;
+    out[at + 2] = c;
+    out[at + 3] = d;
+    out[at + 4] = e;
+    out[at + 5] = f;
+    out[at + 6] = g;
+    out[at + 7] = h;
 }
 
 // `size` bytes of the data from `place` on: few one by one, more in eights, and the last eight again where they are not all new. One
