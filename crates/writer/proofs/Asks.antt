@@ -8,7 +8,7 @@ use native.Mathlib.Omega.{arith}
 use lib.ListN.{length, get_or, drop}
 use lib.Dec.{leb}
 use borrow.Author.Tests.{le-leb, lt-leb}
-use Rattle.std.specs.Prelude.{Result, Ok, Err, is_err}
+use Rattle.std.specs.Prelude.{Result, Ok, Err}
 use Rattle.rows.specs.declared.bad_table.BadTable.{BadTable}
 use Rattle.rows.specs.Table.{words_per_row, row_at, limit}
 use Rattle.format.specs.Tree.{Tree}
@@ -37,23 +37,6 @@ module _ (depth : ℕ) (table : List ℕ) (n : ℕ) (s : List ℕ) (c : Result �
     where
       of : (b : Bool) → cond b (Ok n) (Err bad_table) ≡ Err bad_table → b ≡ false
       of true r = absurd (let z : ◌≡◌ {A = ℕ} 0 1 = cc in omega arith)
-      of false r = refl
-
-  -- by whether it is a refusal
-  pub checked_right : is_err c ≡ false → rules_hold depth table n s ≡ true
-  unfolding checked
-  checked_right q = of (rules_hold depth table n s) (ap is_err (sym e) ∙ q)
-    where
-      of : (b : Bool) → is_err (cond b (Ok n) (Err bad_table)) ≡ false → b ≡ true
-      of true r = refl
-      of false r = sym r
-
-  pub checked_wrong : is_err c ≡ true → rules_hold depth table n s ≡ false
-  unfolding checked
-  checked_wrong q = of (rules_hold depth table n s) (ap is_err (sym e) ∙ q)
-    where
-      of : (b : Bool) → is_err (cond b (Ok n) (Err bad_table)) ≡ true → b ≡ false
-      of true r = sym r
       of false r = refl
 
 -- ---- a table that passes

@@ -25,9 +25,7 @@ fn write_within(
     ensures value { result ≡ written depth table.now n «data».now (length out.old) }
     ensures out_after { out.new ≡ output_after depth table.now n «data».now out.old }
 {
-    if checker::check_within(table, n, data, depth).is_err() {
-        return Err(Unwritten::BadTable);
-    }
+    checker::check_within(table, n, data, depth)?;
     let needed = sizes::size_children(table, 0, n);
     if Row::LIMIT < needed {
         return Err(Unwritten::TooLarge { needed });
