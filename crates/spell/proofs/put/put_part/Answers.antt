@@ -24,7 +24,7 @@ pub loop-laid-init : goal.loop-laid-init
 loop-laid-init c = (search rules, search rules, refl)
 
 pub put_eight-requires : goal.put_eight-requires
-put_eight-requires c = (search rules, search rules)
+put_eight-requires c = (omega arith, omega arith)
 
 pub loop-laid-preserved : goal.loop-laid-preserved
 loop-laid-preserved c =
