@@ -15,7 +15,7 @@ fn end_of(table: &[u32], n: usize, at: Standing) -> Result<usize, BadTable>
 {
     if n <= rows::lent(table) && at.row < n && at.row < at.bound && at.bound <= n {
         let end = rows::number(rows::end_at(table, at.row));
-        if at.row < end && end <= at.bound {
+        if end <= at.bound && at.row < end {
             return Ok(end);
         }
     }
