@@ -27,9 +27,10 @@ fn show_resolved<W: Write>(r: Result<Resolved, BadTable>, output: &mut W) -> io:
     line::put(&mut [0; 96], numbers, output)
 }
 
-// The size and each byte.
+// The size and each byte, up to the first that has no room in the line.
 fn show_payload<W: Write>(bytes: &[u8], output: &mut W) -> io::Result<()> {
-    let text = format_args!("{}{}", bytes.len(), Pairs(bytes));
+    let first = Pairs(&bytes[..bytes.len().min(5462)]);
+    let text = format_args!("{}{first}", bytes.len());
     line::put(&mut [0; 16384], text, output)
 }
 
