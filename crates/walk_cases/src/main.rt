@@ -27,9 +27,10 @@ fn show_resolved<W: Write>(r: Result<Resolved, BadTable>, output: &mut W) -> io:
     line::put(&mut [0; 96], numbers, output)
 }
 
-// The size and each byte.
+// The size and each byte, up to the first that has no room in the line.
 fn show_payload<W: Write>(bytes: &[u8], output: &mut W) -> io::Result<()> {
-    let text = format_args!("{}{}", bytes.len(), Pairs(bytes));
+    let first = Pairs(&bytes[..bytes.len().min(5462)]);
+    let text = format_args!("{}{first}", bytes.len());
     line::put(&mut [0; 16384], text, output)
 }
 
@@ -67,14 +68,13 @@ impl Table<'_> {
 
 // One table, or false at the end of the input, or where a table has more than 256 rows.
 fn one<R: Read, W: Write>(input: &mut R, output: &mut W) -> io::Result<bool> {
-    let Some(front) = Front::read(input)? else {
-        return Ok(false);
-    };
-    let mut asks = [0; 2];
-    if !fills(input, &mut asks)? {
+    let mut bytes = [0; 10];
+    if !fills(input, &mut bytes)? {
         return Ok(false);
     }
-    let size = 9 * u32::from(u16::from_le_bytes(asks));
+    let [a, b, c, d, e, f, g, h, low, high] = bytes;
+    let front = Front::from([a, b, c, d, e, f, g, h]);
+    let size = 9 * u32::from(u16::from_le_bytes([low, high]));
     let mut buf = [0; 65536];
     let mut table = [0; 1536];
     let Some((words, rest)) = front.rest(size, input, &mut buf, &mut table)? else {

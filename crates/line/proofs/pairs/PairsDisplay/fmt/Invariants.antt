@@ -1,0 +1,14 @@
+-- What is written is the pairs of the bytes so far. Assumes nothing.
+use Rattle.std.proofs.Common.{◌≡◌, ℕ, List, ◌++◌}
+use Rattle.std.specs.Fmt.{HasWritten, IsPlainFormatter}
+use Rattle.std.specs.Slice.Iter.{chunks_rest, chunks_size}
+use Rattle.line.specs.Pairs.{pairs}
+use Rattle.line.proofs.pairs.PairsDisplay.fmt.Given as goal
+
+abbrev pub invariant-loop-part : goal.invariant-loop-part
+invariant-loop-part g l =
+    (goal.iterator-loop-part g).can_next l.part-iterator
+    × (goal.iterator-loop-part g).is_finite l.part-iterator
+    × (chunks_size l.part-iterator ≡ 32)
+    × (IsPlainFormatter l.initial.f → (done : List ℕ) × HasWritten g.W.Write.write_str_gives l.initial.f done l.f
+    × (done ++ pairs (chunks_rest l.part-iterator) ≡ pairs l.fn.self.0.now))
