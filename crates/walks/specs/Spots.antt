@@ -126,7 +126,8 @@ step_by table n alongside at = step_along table n at
 
 abbrev pub go_to : Standing → Step → Standing
 go_to at (Ok next) = next
-go_to at (Err why) = at
+go_to at (Err NoStep) = at
+go_to at (Err BadTable) = at
 
 unfoldable pub table_walk : List ℕ → ℕ → List Way → Standing → List Step
 table_walk table n [] at = []
