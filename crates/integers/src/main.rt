@@ -19,6 +19,11 @@ fn put<W: Write>(text: impl Display + Drop, output: &mut W) -> io::Result<()> {
     line::put(&mut [0; 256], text, output)
 }
 
+// The bytes of a string that have room in a line, 1 + 3 * 85 = 256: what does not fit need not be put into pairs.
+fn pairs(s: &[u8]) -> Pairs<'_> {
+    Pairs(&s[..s.len().min(85)])
+}
+
 // A word where a byte that has to stay does not.
 fn touched(rest: &[u8]) -> &'static str {
     if rest.iter().all(|b| *b == FRESH) {
@@ -67,11 +72,11 @@ where
     requires { F.IsAlwaysCallable write }
 {
     let Ok(Got { value: w, used }) = r else {
-        let refusal = format_args!("{name}{}: refused {}", Pairs(s), r.number());
+        let refusal = format_args!("{name}{}: refused {}", pairs(s), r.number());
         return put(refusal, output);
     };
     let words = format_args!("{} {} {} {}", w.w0, w.w1, w.w2, w.w3);
-    put(format_args!("{name}{}: {words} {used}", Pairs(s)), output)?;
+    put(format_args!("{name}{}: {words} {used}", pairs(s)), output)?;
     show_written(w, write, output)
 }
 

@@ -27,7 +27,7 @@ fn show_resolved<W: Write>(r: Result<Resolved, BadTable>, output: &mut W) -> io:
     line::put(&mut [0; 96], numbers, output)
 }
 
-// The size and each byte, up to the first that has no room in the line.
+// The size and each byte, up to the first that has no room in the line, 3 * 5462 > 16384.
 fn show_payload<W: Write>(bytes: &[u8], output: &mut W) -> io::Result<()> {
     let first = Pairs(&bytes[..bytes.len().min(5462)]);
     let text = format_args!("{}{first}", bytes.len());
